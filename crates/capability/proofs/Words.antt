@@ -1,0 +1,79 @@
+-- The operations of the code on words compute the definitions of sets.
+use mathlib.Core.Path.{_≡_, sym, ap, _∙_}
+use mathlib.Core.Bool.{Bool, true, false, not, _&&_, and-true, and-comm}
+use Prim.Native.Nat.{ℕ, _*_, _-_, _/_, _%_, _^_, _≤_, _<_}
+use native.Mathlib.Omega.{arith}
+use lib.Dec.{eqb}
+use lib.Bits.{bitAnd, and-le-l}
+use lib.Pow.{pow-lt, shl-exact}
+use borrow.Author.Needs.{needs}
+use borrow.Author.Tests.{eqb-true, eq-eqb, ne-eqb}
+use Rattle.capability.specs.Sets.{holds, isWithin, loweredTo, loweredBy}
+use Rattle.capability.specs.declared.CapabilitySet.{CapabilitySet}
+use Rattle.laws.proofs.Tests.{test-same, and-right, and-implied}
+use Rattle.capability.proofs.Bits.{set-shift, set-and, set-power, set-not}
+use Rattle.capability.proofs.Sets.{holds-low, holds-high, holds-below, holds-same, collect-same, within-each}
+
+-- `(bits >> n) & 1 == 1`
+pub has-low : (a n : ℕ) → n < 64 → eqb (bitAnd (a / 2 ^ n) 1) 1 ≡ holds a n
+has-low a n h = set-shift a n ∙ sym (holds-low a n h)
+
+pub has-high : (a n : ℕ) → 64 ≤ n → false ≡ holds a n
+has-high a n h = sym (holds-high a n h)
+
+-- `a & b`
+and-small : (a b : ℕ) → a < 2 ^ 64 → bitAnd a b < 2 ^ 64
+and-small a b h = omega (arith, and-le-l a b)
+
+and-holds : (a b n : ℕ) → n < 64 → holds (bitAnd a b) n ≡ (holds a n && holds b n)
+and-holds a b n h = rw (holds-low (bitAnd a b) n h, holds-low a n h, holds-low b n h) (set-and a b n)
+
+-- `a & b == a`
+pub within-and : (a b : ℕ) → a < 2 ^ 64 → eqb (bitAnd a b) a ≡ isWithin a b
+within-and a b small = test-same (eqb (bitAnd a b) a) (isWithin a b) into back
+  where
+    into : eqb (bitAnd a b) a ≡ true → isWithin a b ≡ true
+    into t =
+        let e = eqb-true (bitAnd a b) a t in
+        within-each a b .1 (λ n h. and-right (holds a n) (holds b n) (sym (and-holds a b n (holds-below a n h)) ∙ rw e h))
+
+    back : isWithin a b ≡ true → eqb (bitAnd a b) a ≡ true
+    back t =
+        eq-eqb (bitAnd a b) a
+        (holds-same (bitAnd a b) a (and-small a b small) small
+        (λ n l. and-holds a b n l ∙ and-comm (holds a n) (holds b n) ∙ and-implied (holds b n) (holds a n) (within-each a b .0 t n)))
+
+-- The set of given bits.
+set-of : {x y : ℕ} → x ≡ y → _≡_ {A = CapabilitySet} (record { bits = x }) (record { bits = y })
+set-of e = λ i. record { bits = e i }
+
+pub lowered-and : (a b : ℕ) → a < 2 ^ 64 → _≡_ {A = CapabilitySet} (record { bits = bitAnd a b }) (record { bits = loweredTo a b })
+unfolding loweredTo
+lowered-and a b h = set-of (collect-same (bitAnd a b) (λ n. holds a n && holds b n) (and-small a b h) (and-holds a b))
+
+-- `a & !(1 << n)`
+shifted : (n : ℕ) → n < 64 → 1 * 2 ^ n % 18446744073709551616 ≡ 2 ^ n
+shifted n h = shl-exact {a = 1} 1 n 64 (omega arith) (omega arith) ∙ omega arith
+
+mask-holds : (n k : ℕ) → n < 64 → k < 64 → holds (18446744073709551615 - 2 ^ n) k ≡ not (eqb k n)
+mask-holds n k h l = holds-low (18446744073709551615 - 2 ^ n) k l ∙ set-not k 64 (2 ^ n) (pow-lt h) l ∙ ap not (set-power n k)
+
+pub without-low : (a n : ℕ) → a < 2 ^ 64 → n < 64
+    → _≡_ {A = CapabilitySet} (record { bits = bitAnd a (18446744073709551615 - 1 * 2 ^ n % 18446744073709551616) }) (record { bits = loweredBy a n })
+unfolding loweredBy
+without-low a n small h =
+    let mask = 18446744073709551615 - 2 ^ n in
+    set-of
+    (rw (shifted n h)
+    (collect-same (bitAnd a mask) (λ k. holds a k && not (eqb k n)) (and-small a mask small)
+    (λ k l. and-holds a mask k l ∙ ap (λ (t : Bool). holds a k && t) (mask-holds n k h l))))
+
+pub without-high : (a : CapabilitySet) (n : ℕ) → a .bits < 2 ^ 64 → 64 ≤ n → a ≡ record { bits = loweredBy (a .bits) n }
+unfolding loweredBy
+without-high a n small h =
+    set-of
+    (collect-same (a .bits) (λ k. holds (a .bits) k && not (eqb k n)) small
+    (λ k l. rw (ne-eqb k n (omega arith)) (sym (and-true (holds (a .bits) k)))))
+
+-- What answers the needs of the functions.
+pub ruleset words = (has-low, has-high, within-and, lowered-and, without-low, without-high, needs)

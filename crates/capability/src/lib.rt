@@ -1,0 +1,74 @@
+// Sets of capabilities: which capabilities a process has, kept as the bits of one word.
+ghost use mathlib.Core.Path.{_≡_};
+ghost use Rattle.capability.specs.Sets.{holds, fullSet, emptySet, isWithin, loweredTo, loweredBy};
+
+pub struct CapabilitySet {
+    pub bits: u64,
+}
+
+impl CapabilitySet {
+    pub const FULL: CapabilitySet = CapabilitySet { bits: 0x1fffffffff };
+
+    pub const EMPTY: CapabilitySet = CapabilitySet { bits: 0 };
+
+    // The set with these bits: capability `n` is bit `n`.
+    pub fn new(bits: u64) -> Self
+        ensures { λ r. ⌜ r ≡ record { bits = bits } ⌝ }
+    {
+        CapabilitySet { bits: bits }
+    }
+
+    // The full set, capabilities 0 to 36.
+    pub fn full() -> Self
+        ensures { λ r. ⌜ r ≡ record { bits = fullSet } ⌝ }
+    {
+        CapabilitySet::FULL
+    }
+
+    // The set with no capability.
+    pub fn empty() -> Self
+        ensures { λ r. ⌜ r ≡ record { bits = emptySet } ⌝ }
+    {
+        CapabilitySet::EMPTY
+    }
+
+    // Whether `capability` is in the set. No set has a capability above 63.
+    pub fn has(self, capability: u32) -> bool
+        ensures { λ r. ⌜ r ≡ holds (self .bits) capability ⌝ }
+    {
+        if capability < 64 {
+            (self.bits >> capability) & 1 == 1
+        } else {
+            false
+        }
+    }
+
+    // Whether every capability in the set is in `other`.
+    pub fn within(self, other: CapabilitySet) -> bool
+        ensures { λ r. ⌜ r ≡ isWithin (self .bits) (other .bits) ⌝ }
+    {
+        self.bits & other.bits == self.bits
+    }
+
+    // The capabilities that are in the set and in `kept`.
+    pub fn lowered(self, kept: CapabilitySet) -> Self
+        ensures { λ r. ⌜ r ≡ record { bits = loweredTo (self .bits) (kept .bits) } ⌝ }
+    {
+        CapabilitySet {
+            bits: self.bits & kept.bits,
+        }
+    }
+
+    // The set without `capability`. A number above 63 leaves it as it is.
+    pub fn without(self, capability: u32) -> Self
+        ensures { λ r. ⌜ r ≡ record { bits = loweredBy (self .bits) capability } ⌝ }
+    {
+        if capability < 64 {
+            CapabilitySet {
+                bits: self.bits & !(1 << capability),
+            }
+        } else {
+            self
+        }
+    }
+}

@@ -1,0 +1,11 @@
+pub mod Words
+pub mod Lookups
+pub mod Overlaps
+pub mod Interval
+pub mod Goodness
+pub mod Translation
+pub mod Covers
+pub mod Scans
+pub mod Fields
+pub mod FirstLine
+pub mod Texts

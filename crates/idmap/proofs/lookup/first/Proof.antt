@@ -1,0 +1,29 @@
+-- `idmap::lookup::first` meets its contract. Assumes nothing.
+use mathlib.Core.Path.{_≡_}
+use Prim.Native.Nat.{_≤_, _-_}
+use lib.ListN.{length}
+use Rattle.idmap.proofs.Lookups.{outFrom}
+use Rattle.idmap.proofs.Lookups.{lookups}
+use Rattle.idmap.proofs.lookup.first.Statement.{statement}
+use Rattle.idmap.proofs.lookup.first.Tie as tie
+
+abbrev Inv-loop : tie.InvT-loop
+Inv-loop words id backward i₀ i = (i ≤ length words) × (outFrom backward words 0 id ≡ outFrom backward words i id)
+
+abbrev μ-loop : tie.MeasureT-loop
+μ-loop words id backward i₀ i = length words - i
+
+pub first-spec : {M : Type 1} → statement M
+first-spec =
+    tie.close (tie.spec Inv-loop μ-loop
+    (λ c. search lookups)  -- loop-holds
+    (λ c. search lookups)  -- sub-loop
+    (λ c κs. search lookups)  -- line-at-requires
+    (λ c κs. search lookups)  -- facing-requires
+    (λ c κs. search lookups)  -- in-range-requires
+    (λ c κs. search lookups)  -- moved-requires
+    (λ c. search lookups)  -- returns
+    (λ c. search lookups)  -- add-i
+    (λ c. search lookups)  -- loop-less
+    (λ c. search lookups)  -- loop-again
+    (λ c. search lookups))  -- returns-2

@@ -1,0 +1,6 @@
+pub mod Line
+pub mod Lookup
+pub mod Good
+pub mod Cover
+pub mod Text
+pub mod Scan

@@ -1,0 +1,22 @@
+// ID maps: their lines, the lookups through them, the tests of a map that is to be written, and the text of a map.
+// User and group maps use the same code. Nothing here knows a table, a process or a namespace.
+pub mod cover;
+pub mod lookup;
+pub mod overlap;
+pub mod text;
+
+// The most lines that a map has.
+pub const MAX_LINES: usize = 5;
+
+// A line of a map: `count` IDs from `inside` on stand for those from `parent` on in the parent namespace.
+pub struct Line {
+    pub inside: u32,
+    pub parent: u32,
+    pub count: u32,
+}
+
+// What a lookup finds.
+pub enum Translated {
+    Id(u32),
+    Unmapped,
+}

@@ -1,0 +1,95 @@
+// Lookups through the lines of one map, which stand in lent words, three to a line.
+ghost use mathlib.Core.Path.{_≡_};
+ghost use mathlib.Core.List.{map};
+ghost use Prim.Native.Nat.{_+_, _<_};
+ghost use lib.ListN.{length};
+ghost use Rattle.idmap.specs.Line.{inRange, lineAt, linesIn};
+ghost use Rattle.idmap.specs.Lookup.{facingOf, movedBy, out, back, reachOf};
+use crate::Line;
+use crate::Translated;
+
+// Whether `id` is one of the `count` IDs from `start` on.
+pub fn in_range(id: u32, start: u32, count: u32) -> bool
+    ensures { λ r. ⌜ r ≡ inRange id start count ⌝ }
+{
+    std::num::wrapping_sub_u32(id, start) < count
+}
+
+// The line whose three words stand from place `at` on.
+fn line_at(words: &[u64], at: usize) -> Line
+    requires { ⌜ at + 2 < length (now words) ⌝ }
+    ensures { λ r. ⌜ r ≡ lineAt (now (words .entry)) at ⌝ }
+{
+    Line {
+        inside: (words[at] % 4294967296) as u32,
+        parent: (words[at + 1] % 4294967296) as u32,
+        count: (words[at + 2] % 4294967296) as u32,
+    }
+}
+
+// The line itself, or with its two sides exchanged.
+fn facing(l: Line, backward: bool) -> Line
+    ensures { λ r. ⌜ r ≡ facingOf backward l ⌝ }
+{
+    if backward {
+        Line {
+            inside: l.parent,
+            parent: l.inside,
+            count: l.count,
+        }
+    } else {
+        l
+    }
+}
+
+// The ID that `l` gives for an `id` that it holds.
+fn moved(l: Line, id: u32) -> u32
+    ensures { λ r. ⌜ r ≡ movedBy l id ⌝ }
+{
+    std::num::wrapping_add_u32(l.parent, std::num::wrapping_sub_u32(id, l.inside))
+}
+
+// What the first line that holds `id` makes of it, read out of the namespace or back into it.
+fn first(words: &[u64], id: u32, backward: bool) -> Translated
+    ensures { λ r. ⌜ r ≡ out (map (facingOf backward) (linesIn (now (words .entry)))) id ⌝ }
+{
+    let mut i: usize = 0;
+    while 3 <= words.len() - i {
+        let l = facing(line_at(words, i), backward);
+        if in_range(id, l.inside, l.count) {
+            return Translated::Id(moved(l, id));
+        }
+        i += 3;
+    }
+    Translated::Unmapped
+}
+
+// The parent's ID for an ID inside. Linux: map_id_down.
+pub fn lookup_out(words: &[u64], id: u32) -> Translated
+    ensures { λ r. ⌜ r ≡ out (linesIn (now (words .entry))) id ⌝ }
+{
+    first(words, id, false)
+}
+
+// The ID inside for an ID of the parent. Linux: map_id_up.
+pub fn lookup_back(words: &[u64], id: u32) -> Translated
+    ensures { λ r. ⌜ r ≡ back (linesIn (now (words .entry))) id ⌝ }
+{
+    first(words, id, true)
+}
+
+// How many IDs, from `id` to the end of the first line that holds it, are in that line; 0 where no line holds it.
+pub fn reach(words: &[u64], id: u32) -> u32
+    ensures { λ r. ⌜ r ≡ reachOf (linesIn (now (words .entry))) id ⌝ }
+{
+    let mut i: usize = 0;
+    while 3 <= words.len() - i {
+        let l = line_at(words, i);
+        let offset = std::num::wrapping_sub_u32(id, l.inside);
+        if offset < l.count {
+            return l.count - offset;
+        }
+        i += 3;
+    }
+    0
+}

@@ -1,0 +1,146 @@
+-- The laws of a part of a list of words and of a store: the words that are put are there, and every other word is as it was.
+use Prim.Native.Nat.{ℕ, _+_, _≤_, _<_, _-_}
+use mathlib.Core.Path.{_≡_, refl, sym, ap, _∙_}
+use mathlib.Core.List.{List, _++_, append-assoc}
+use mathlib.Core.Logic.{⊎-elim, _⊎_, inl, inr}
+use native.Mathlib.Numerals.{add-one}
+use native.Mathlib.Omega.{arith}
+use lib.Dec.{leb}
+use lib.ListN.{length, getD, set, take, drop, length-set, length-append, length-take, length-drop, drop-of-length-le, List·getD-append}
+use lib.Seq.{drop-at, drop-length, take-all, take-nil, take-append-seam, take-length, length-take-le}
+use lib.Seq.{ext-getD, getD-take, getD-drop, getD-append-add, paste, paste-zero, paste-suc}
+use borrow.Author.Needs.{needs}
+use borrow.Author.Tests.{le-leb, lt-leb, leb-true, leb-false}
+use Rattle.laws.proofs.Tests.{by-test}
+use Rattle.rows.specs.Rows.{part, putAt}
+
+-- A part of a list.
+module _ (w at : ℕ) (l : List ℕ) where
+  pub length-part : at + w ≤ length l → length (part w at l) ≡ w
+  unfolding part
+  length-part h = simp (length-take, length-drop) (omega arith)
+
+  -- a part as a range of the code, `&t[at..end]` with `end = at + w`
+  pub part-range : take (at + w - at) (drop at l) ≡ part w at l
+  unfolding part
+  part-range = let e : at + w - at ≡ w = omega arith in rw e
+
+  -- a part that reaches past the end, as `&t[at..]`
+  pub part-rest : length l - at < w → take (length l - at) (drop at l) ≡ part w at l
+  unfolding part
+  part-rest h =
+      take-all (length l - at) (drop at l) (simp length-drop (omega arith))
+      ∙ sym (take-all w (drop at l) (simp length-drop (omega arith)))
+
+  -- a part that starts past the end, as `&t[t.len()..]`
+  pub part-none : length l < at → take (length l - length l) (drop (length l) l) ≡ part w at l
+  unfolding part
+  part-none h = rw (drop-length l, drop-of-length-le l {i = at} (omega arith), take-nil w) (take-nil (length l - length l))
+
+-- two lists of one length that agree on the w places from at on have one part there
+part-agree : (w at : ℕ) (l l′ : List ℕ) → length l ≡ length l′ → ((j : ℕ) → j < w → getD l (at + j) 0 ≡ getD l′ (at + j) 0)
+    → part w at l ≡ part w at l′
+unfolding part
+part-agree w at l l′ e same =
+    ext-getD 0 (take w (drop at l)) (take w (drop at l′)) (simp (length-take, length-drop, e))
+    (λ i h.
+    let b : i < w = omega (arith, simp (length-take, length-drop) at h) in
+    getD-take w (drop at l) i 0 b ∙ getD-drop at l i 0 ∙ same i b ∙ sym (getD-drop at l′ i 0) ∙ sym (getD-take w (drop at l′) i 0 b))
+
+-- A store that fits.
+module _ (l : List ℕ) (at : ℕ) (vs : List ℕ) (fits : at + length vs ≤ length l) where
+  pub put-inside : putAt l at vs ≡ take at l ++ vs ++ drop (at + length vs) l
+  unfolding putAt
+  put-inside = rw (le-leb (at + length vs) (length l) fits)
+
+  length-head : length (take at l ++ vs) ≡ at + length vs
+  length-head = simp (length-append, length-take) (omega arith)
+
+  length-inside : length (putAt l at vs) ≡ length l
+  length-inside = rw put-inside (simp (length-append, length-take, length-drop) (omega arith))
+
+  -- what was put is read again
+  pub part-put-same : part (length vs) at (putAt l at vs) ≡ vs
+  unfolding part
+  part-put-same =
+      let rest = drop (at + length vs) l in
+      rw (put-inside, append-assoc (take at l) vs rest)
+      (rw (drop-at (take at l) (vs ++ rest) at (length-take-le at l (omega arith))) (take-append-seam vs rest))
+
+  put-before : (j : ℕ) → j < at → getD (putAt l at vs) j 0 ≡ getD l j 0
+  put-before j h =
+      rw put-inside (List·getD-append (take at l ++ vs) (drop (at + length vs) l) 0 j (omega (arith, length-head)))
+      ∙ List·getD-append (take at l) vs 0 j (omega (arith, length-take-le at l (omega arith)))
+      ∙ getD-take at l j 0 h
+
+  put-after : (j : ℕ) → at + length vs ≤ j → getD (putAt l at vs) j 0 ≡ getD l j 0
+  put-after j h =
+      let k = j - (at + length vs) in
+      let e : j ≡ length (take at l ++ vs) + k = omega (arith, length-head) in
+      let e2 : at + length vs + k ≡ j = omega arith in
+      rw put-inside (ap (λ (n : ℕ). getD (take at l ++ vs ++ drop (at + length vs) l) n 0) e)
+      ∙ getD-append-add (take at l ++ vs) (drop (at + length vs) l) k 0
+      ∙ getD-drop (at + length vs) l k 0
+      ∙ ap (λ (n : ℕ). getD l n 0) e2
+
+  -- word i of what was put
+  pub put-word : (i : ℕ) → i < length vs → getD (putAt l at vs) (at + i) 0 ≡ getD vs i 0
+  unfolding part
+  put-word i h =
+      sym (getD-drop at (putAt l at vs) i 0)
+      ∙ sym (getD-take (length vs) (drop at (putAt l at vs)) i 0 h)
+      ∙ ap (λ (s : List ℕ). getD s i 0) part-put-same
+
+-- A store, whether it fits or not.
+module _ (l : List ℕ) (at : ℕ) (vs : List ℕ) where
+  -- words that do not all fit change nothing
+  pub put-outside : length l < at + length vs → putAt l at vs ≡ l
+  unfolding putAt
+  put-outside h = rw (lt-leb (at + length vs) (length l) h)
+
+  by-fit : {P : Type 0} → (at + length vs ≤ length l → P) → (length l < at + length vs → P) → P
+  by-fit f g =
+      by-test (leb (at + length vs) (length l)) (λ t. f (leb-true (at + length vs) (length l) t)) (λ t. g (leb-false (at + length vs) (length l) t))
+
+  pub length-put : length (putAt l at vs) ≡ length l
+  length-put = by-fit (length-inside l at vs) (λ h. ap length (put-outside h))
+
+  -- every word before and after those that are put keeps its value
+  pub put-elsewhere : (j : ℕ) → (at + length vs ≤ j) ⊎ (j < at) → getD (putAt l at vs) j 0 ≡ getD l j 0
+  put-elsewhere j apart =
+      by-fit (λ h. ⊎-elim (put-after l at vs h j) (put-before l at vs h j) apart) (λ h. ap (λ (s : List ℕ). getD s j 0) (put-outside h))
+
+  -- what lies wholly before or after the words that are put is as it was
+  pub part-put-apart : (w a : ℕ) → (at + length vs ≤ a) ⊎ (a + w ≤ at) → part w a (putAt l at vs) ≡ part w a l
+  part-put-apart w a apart =
+      part-agree w a (putAt l at vs) l length-put
+      (λ j h. put-elsewhere (a + j) (⊎-elim (λ after. inl (omega arith)) (λ before. inr (omega arith)) apart))
+
+-- The tests and the loop of the code.
+module _ (l : List ℕ) (at : ℕ) (vs : List ℕ) where
+  -- the start lies past the end
+  pub put-past : length l < at → l ≡ putAt l at vs
+  put-past h = sym (put-outside l at vs (omega arith))
+
+  -- the words are more than there is room for
+  pub put-long : at ≤ length l → length l - at < length vs → l ≡ putAt l at vs
+  put-long h k = sym (put-outside l at vs (omega arith))
+
+  -- one more word is in place
+  pub put-step : (t : List ℕ) (i : ℕ) → at + length vs ≤ length l → i < length vs → t ≡ paste l at vs i
+      → set t (at + i) (getD vs i 0) ≡ paste l at vs (i + 1)
+  put-step t i fits h e = rw (e, add-one) (paste-suc l at vs i 0 (omega arith) h)
+
+  -- all words are in place
+  pub put-all : (t : List ℕ) (i : ℕ) → at + length vs ≤ length l → i ≤ length vs → length vs ≤ i → t ≡ paste l at vs i → t ≡ putAt l at vs
+  put-all t i fits h k e =
+      let q : i ≡ length vs = omega arith in
+      e
+      ∙ ap (λ (k : ℕ). paste l at vs k) q
+      ∙ ap (λ (r : List ℕ). take at l ++ r ++ drop (at + length vs) l) (take-length vs)
+      ∙ sym (put-inside l at vs fits)
+
+-- What answers the needs of `put` and `get`, and those of the loop.
+pub ruleset parts = (part-range, part-rest, part-none, put-past, put-long, needs)
+
+pub ruleset stores = (paste-zero, put-step, put-all, length-set, needs)
