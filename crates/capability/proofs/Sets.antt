@@ -7,7 +7,7 @@ use native.Mathlib.Omega.{arith}
 use lib.Dec.{eqb, ltb, leb}
 use borrow.Author.Tests.{eqb-true, eqb-false, lt-ltb, le-ltb, ltb-false, ltb-true, lt-leb}
 use Rattle.capability.specs.Sets.{holds, fullSet, emptySet, allBelow, isWithin, powersBelow, collect, loweredTo, loweredBy}
-use Rattle.laws.proofs.Tests.{by-test, test-same, and-left, and-right, and-implied, or-use, or-make}
+use Rattle.prelude.proofs.Tests.{by-test, test-same, and-left, and-right, and-implied, or-use, or-make}
 use Rattle.capability.proofs.Bits.{isSet, bits-same, powers-set, powers-small}
 
 -- A capability in a set.

@@ -10,7 +10,7 @@ use borrow.Author.Needs.{needs}
 use borrow.Author.Tests.{eqb-true, eq-eqb, ne-eqb}
 use Rattle.capability.specs.Sets.{holds, isWithin, loweredTo, loweredBy}
 use Rattle.capability.specs.declared.CapabilitySet.{CapabilitySet}
-use Rattle.laws.proofs.Tests.{test-same, and-right, and-implied}
+use Rattle.prelude.proofs.Tests.{test-same, and-right, and-implied}
 use Rattle.capability.proofs.Bits.{set-shift, set-and, set-power, set-not}
 use Rattle.capability.proofs.Sets.{holds-low, holds-high, holds-below, holds-same, collect-same, within-each}
 

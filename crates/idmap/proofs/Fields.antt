@@ -12,7 +12,7 @@ use borrow.Author.Tests.{ne-eqb, leb-true}
 use Rattle.idmap.specs.Good.{noId}
 use Rattle.idmap.specs.Text.{isBlank, isDigit, longer, pieces, filled, consOf, allOf, allDigits, decimal, numberOf, numbersOf}
 use Rattle.idmap.specs.Scan.{run, value}
-use Rattle.laws.proofs.Tests.{by-test, both}
+use Rattle.prelude.proofs.Tests.{by-test, both}
 
 -- a digit is no blank
 digit-solid : (c : ℕ) → isDigit c ≡ true → isBlank c ≡ false

@@ -19,17 +19,17 @@ use Rattle.idmap.specs.declared.text.LineRead.the-variants.{Read, NoLine
 use Rattle.idmap.specs.Good.{noId}
 use Rattle.idmap.specs.Text.{isNewline, isBlank, isDigit, longer, pieces, consOf, allOf, numberOf, numbersOf, threeOf, lineOf, textLines}
 use Rattle.idmap.specs.Scan.{run, value, skipped, ended, numberAt, fieldAt, lineEnd, thenNumber, scanLine}
-use Rattle.laws.proofs.Tests.{by-test, cond-elim}
+use Rattle.prelude.proofs.Tests.{by-test, cond-elim}
 use Rattle.idmap.proofs.Fields.{number-front, numbers-skip, numbers-none, numbers-other, numbers-front, numbers-more}
 
 -- ---- a text is its first line and what follows
 -- no newline in it
-abbrev Solid : List ℕ → Type 0
+abbrev pub Solid : List ℕ → Type 0
 Solid [] = Unit {0}
 Solid (c ∷ l) = (isNewline c ≡ false) × Solid l
 
 -- the text's end, or a newline
-data Ends : List ℕ → Type 0 where
+pub data Ends : List ℕ → Type 0 where
   at-end : Ends []
   at-newline : (z : List ℕ) → Ends (10 ∷ z)
 
@@ -48,7 +48,7 @@ split (c ∷ s) =
     (λ t. (c ∷ r .0, r .1, (t, r .2), r .3, ap (λ (l : List ℕ). c ∷ l) (r .4)))
 
 -- the first piece is the first line
-first-piece : (l z : List ℕ) → Solid l → Ends z → 0 < length (l ++ z) → pieces isNewline (l ++ z) ≡ l ∷ pieces isNewline (drop 1 z)
+pub first-piece : (l z : List ℕ) → Solid l → Ends z → 0 < length (l ++ z) → pieces isNewline (l ++ z) ≡ l ∷ pieces isNewline (drop 1 z)
 unfolding pieces
 first-piece [] z s at-end h = absurd (omega arith)
 first-piece [] z s (at-newline w) h = refl

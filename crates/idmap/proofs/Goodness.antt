@@ -13,7 +13,7 @@ use Rattle.idmap.specs.declared.Line.{Line}
 use Rattle.idmap.specs.Line.{noLine}
 use Rattle.idmap.specs.Lookup.{flip}
 use Rattle.idmap.specs.Good.{noId, fitsOf, boundedOf, apartSide, apartOf, allApart, goodOf, Within, Bounded, Apart, Good}
-use Rattle.laws.proofs.Tests.{by-test, both, and-i}
+use Rattle.prelude.proofs.Tests.{by-test, both, and-i}
 
 -- ---- one line
 bounded-fact : (l : Line) → boundedOf l ≡ true → Bounded l

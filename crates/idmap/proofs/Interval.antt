@@ -7,7 +7,7 @@ use native.Mathlib.Omega.{arith}
 use borrow.Author.Tests.{ltb-true, leb-true, lt-ltb, le-leb}
 use Rattle.idmap.specs.Line.{less, inRange}
 use Rattle.idmap.specs.Good.{noId, Within}
-use Rattle.laws.proofs.Tests.{by-test}
+use Rattle.prelude.proofs.Tests.{by-test}
 
 module _ (id start count : ℕ) (small : id < 2 ^ 32) (bound : start + count ≤ noId) where
   pub in-interval : inRange id start count ≡ true → Within id start count

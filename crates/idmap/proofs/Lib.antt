@@ -9,3 +9,5 @@ pub mod Scans
 pub mod Fields
 pub mod FirstLine
 pub mod Texts
+pub mod Shows
+pub mod ReadBack

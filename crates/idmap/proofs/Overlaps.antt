@@ -11,7 +11,7 @@ use borrow.Author.Tests.{le-leb, lt-leb, lt-ltb, le-ltb}
 use Rattle.idmap.specs.declared.Line.{Line}
 use Rattle.idmap.specs.Line.{noLine}
 use Rattle.idmap.specs.Good.{noId, fitsOf, boundedOf, apartSide, apartOf, allApart, goodOf}
-use Rattle.laws.proofs.Lists.{left-step, left-none}
+use Rattle.prelude.proofs.Lists.{left-step, left-none}
 
 -- fits
 pub fits-second : (l : Line) → l .inside + l .count ≤ noId → leb (l .parent + l .count) noId ≡ fitsOf l

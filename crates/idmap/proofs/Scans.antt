@@ -20,7 +20,7 @@ use Rattle.idmap.specs.declared.text.LineRead.the-variants.{Read, NoLine
 use Rattle.idmap.specs.Good.{noId}
 use Rattle.idmap.specs.Text.{isBlank, isDigit}
 use Rattle.idmap.specs.Scan.{run, value, skipped, ended, numberAt, fieldAt, lineEnd, scanLine}
-use Rattle.laws.proofs.Tests.{cond-elim, both}
+use Rattle.prelude.proofs.Tests.{cond-elim, both}
 
 -- ---- is_blank, is_digit
 module _ (c : ℕ) where

@@ -11,7 +11,7 @@ use Rattle.idmap.specs.declared.Translated.the-variants.{Id, Unmapped}
 use Rattle.idmap.specs.Line.{inRange}
 use Rattle.idmap.specs.Lookup.{movedBy, out, flip, back}
 use Rattle.idmap.specs.Good.{noId, allApart, goodOf, Within, Bounded, Apart}
-use Rattle.laws.proofs.Tests.{by-test}
+use Rattle.prelude.proofs.Tests.{by-test}
 use Rattle.idmap.proofs.Interval.{in-interval, interval-in}
 use Rattle.idmap.proofs.Goodness.{flip-good, good-first, good-others, good-apart, apart-first-of}
 

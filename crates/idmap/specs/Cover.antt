@@ -3,24 +3,24 @@ use Prim.Native.Nat.{ℕ, zero, suc, _-_}
 use mathlib.Core.Bool.{Bool, true, false, cond}
 use mathlib.Core.List.{List}
 use mathlib.Core.Path.{_≡_}
-use lib.Dec.{leb, eqb}
+use lib.Dec.{eqb}
 use Rattle.idmap.specs.declared.Line.{Line}
 use Rattle.idmap.specs.declared.Translated.the-variants.{Id}
-use Rattle.idmap.specs.Line.{more}
+use Rattle.idmap.specs.Line.{more, inRange}
 use Rattle.idmap.specs.Lookup.{out, reachOf}
 
--- the range's first ID has a line, and so has what the range has past that line's end; in at most k steps past the first
+-- a line that holds the ID at holds last too, or the same is so of the ID past that line's end; in at most k steps past the first line
 unfoldable pub coveredIn : ℕ → List Line → ℕ → ℕ → Bool
-coveredIn zero ls at left = leb left (reachOf ls at)
-coveredIn (suc k) ls at left =
+coveredIn zero ls at last = inRange last at (reachOf ls at)
+coveredIn (suc k) ls at last =
     let n = reachOf ls at in
-    let rest = coveredIn k ls (more at n) (left - n) in
+    let rest = coveredIn k ls (more at n) last in
     let beyond = cond (eqb n 0) false rest in
-    cond (leb left n) true beyond
+    cond (inRange last at n) true beyond
 
 -- the count IDs from start on are covered. Each step past a line leaves at least one ID less
 unfoldable pub coveredOf : List Line → ℕ → ℕ → Bool
-coveredOf ls start count = coveredIn count ls start count
+coveredOf ls start count = cond (eqb count 0) true (coveredIn count ls start (more start (count - 1)))
 
 -- document 01: an ID is mapped if it has a translation out. That coveredOf says this of each ID of the range is a law
 abbrev pub Mapped : List Line → ℕ → Type 0

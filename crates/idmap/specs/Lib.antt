@@ -3,4 +3,5 @@ pub mod Lookup
 pub mod Good
 pub mod Cover
 pub mod Text
+pub mod Show
 pub mod Scan

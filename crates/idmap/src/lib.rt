@@ -3,6 +3,7 @@
 pub mod cover;
 pub mod lookup;
 pub mod overlap;
+pub mod show;
 pub mod text;
 
 // The most lines that a map has.

@@ -7,8 +7,9 @@ use native.Mathlib.Omega.{arith}
 use native.Mathlib.Nat.{zero-mul, suc-mul, not-suc-le-zero, le-of-suc-le-suc}
 use lib.ListN.{length, getD, set, List·getD-eq-default}
 use lib.Seq.{set-out}
-use Rattle.rows.specs.Rows.{part, putAt, rows}
-use Rattle.rows.proofs.Parts.{part-put-same, part-put-apart}
+use Rattle.prelude.specs.Parts.{part, putAt}
+use Rattle.rows.specs.Rows.{rows}
+use Rattle.prelude.proofs.Parts.{part-put-same, part-put-apart}
 
 module _ {A : Type 0} (dec : List ℕ → A) (w : ℕ) where
   pub length-rows : (n at : ℕ) (l : List ℕ) → length (rows dec w n at l) ≡ n

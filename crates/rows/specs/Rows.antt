@@ -1,17 +1,7 @@
--- A list of words read as rows of one width, and the store of one row. It knows no record.
+-- A list of words read as rows of one width. It knows no record.
 use Prim.Native.Nat.{ℕ, zero, suc, _+_}
-use mathlib.Core.Bool.{cond}
-use mathlib.Core.List.{List, [], _∷_, _++_}
-use lib.Dec.{leb}
-use lib.ListN.{take, drop, length}
-
--- The w words from place at on. What lies past the end is cut off.
-unfoldable pub part : ℕ → ℕ → List ℕ → List ℕ
-part w at l = take w (drop at l)
-
--- l with the words from place at on replaced by vs. Where they do not all fit, nothing changes.
-unfoldable pub putAt : List ℕ → ℕ → List ℕ → List ℕ
-putAt l at vs = cond (leb (at + length vs) (length l)) (take at l ++ vs ++ drop (at + length vs) l) l
+use mathlib.Core.List.{List, [], _∷_}
+use Rattle.prelude.specs.Parts.{part}
 
 -- The n rows of w words each from place at on, each as dec reads it.
 unfoldable pub rows : {A : Type 0} → (List ℕ → A) → ℕ → ℕ → ℕ → List ℕ → List A

@@ -2,7 +2,7 @@
 ghost use mathlib.Core.Path.{_≡_};
 ghost use Prim.Native.Nat.{_+_, _≤_};
 ghost use lib.ListN.{length};
-ghost use Rattle.rows.specs.Rows.{part, putAt};
+ghost use Rattle.prelude.specs.Parts.{part, putAt};
 
 fn store(t: &mut [u64], at: usize, row: &[u64])
     requires { ⌜ at + length (now row) ≤ length (now t) ⌝ }

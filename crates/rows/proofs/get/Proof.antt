@@ -1,5 +1,5 @@
 -- `get`: each range of the code is the part.
-use Rattle.rows.proofs.Parts.{parts}
+use Rattle.prelude.proofs.Parts.{parts}
 use Rattle.rows.proofs.get.Statement.{statement}
 use Rattle.rows.proofs.get.Tie as tie
 

@@ -1,5 +1,5 @@
 -- `put`: the code's two tests are the one test whether the words fit.
-use Rattle.rows.proofs.Parts.{parts}
+use Rattle.prelude.proofs.Parts.{parts}
 use Rattle.rows.proofs.put.Statement.{statement}
 use Rattle.rows.proofs.put.Tie as tie
 

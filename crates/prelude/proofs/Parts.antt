@@ -1,6 +1,7 @@
--- The laws of a part of a list of words and of a store: the words that are put are there, and every other word is as it was.
+-- The laws of a part of a list and of a store into one: what is put is there, and everything else is as it was. Assumes nothing.
 use Prim.Native.Nat.{ℕ, _+_, _≤_, _<_, _-_}
-use mathlib.Core.Path.{_≡_, refl, sym, ap, _∙_}
+use mathlib.Core.Path.{_≡_, sym, ap, _∙_}
+use mathlib.Core.Bool.{true, false}
 use mathlib.Core.List.{List, _++_, append-assoc}
 use mathlib.Core.Logic.{⊎-elim, _⊎_, inl, inr}
 use native.Mathlib.Numerals.{add-one}
@@ -11,8 +12,8 @@ use lib.Seq.{drop-at, drop-length, take-all, take-nil, take-append-seam, take-le
 use lib.Seq.{ext-getD, getD-take, getD-drop, getD-append-add, paste, paste-zero, paste-suc}
 use borrow.Author.Needs.{needs}
 use borrow.Author.Tests.{le-leb, lt-leb, leb-true, leb-false}
-use Rattle.laws.proofs.Tests.{by-test}
-use Rattle.rows.specs.Rows.{part, putAt}
+use Rattle.prelude.proofs.Tests.{by-test}
+use Rattle.prelude.specs.Parts.{part, fitsAt, putAt}
 
 -- A part of a list.
 module _ (w at : ℕ) (l : List ℕ) where
@@ -49,9 +50,13 @@ part-agree w at l l′ e same =
 
 -- A store that fits.
 module _ (l : List ℕ) (at : ℕ) (vs : List ℕ) (fits : at + length vs ≤ length l) where
+  pub fits-inside : fitsAt l at vs ≡ true
+  unfolding fitsAt
+  fits-inside = le-leb (at + length vs) (length l) fits
+
   pub put-inside : putAt l at vs ≡ take at l ++ vs ++ drop (at + length vs) l
   unfolding putAt
-  put-inside = rw (le-leb (at + length vs) (length l) fits)
+  put-inside = rw fits-inside
 
   length-head : length (take at l ++ vs) ≡ at + length vs
   length-head = simp (length-append, length-take) (omega arith)
@@ -83,7 +88,7 @@ module _ (l : List ℕ) (at : ℕ) (vs : List ℕ) (fits : at + length vs ≤ le
       ∙ getD-drop (at + length vs) l k 0
       ∙ ap (λ (n : ℕ). getD l n 0) e2
 
-  -- word i of what was put
+  -- element i of what was put
   pub put-word : (i : ℕ) → i < length vs → getD (putAt l at vs) (at + i) 0 ≡ getD vs i 0
   unfolding part
   put-word i h =
@@ -93,10 +98,14 @@ module _ (l : List ℕ) (at : ℕ) (vs : List ℕ) (fits : at + length vs ≤ le
 
 -- A store, whether it fits or not.
 module _ (l : List ℕ) (at : ℕ) (vs : List ℕ) where
-  -- words that do not all fit change nothing
+  pub fits-outside : length l < at + length vs → fitsAt l at vs ≡ false
+  unfolding fitsAt
+  fits-outside h = lt-leb (at + length vs) (length l) h
+
+  -- what does not all fit changes nothing
   pub put-outside : length l < at + length vs → putAt l at vs ≡ l
   unfolding putAt
-  put-outside h = rw (lt-leb (at + length vs) (length l) h)
+  put-outside h = rw (fits-outside h)
 
   by-fit : {P : Type 0} → (at + length vs ≤ length l → P) → (length l < at + length vs → P) → P
   by-fit f g =
@@ -105,12 +114,12 @@ module _ (l : List ℕ) (at : ℕ) (vs : List ℕ) where
   pub length-put : length (putAt l at vs) ≡ length l
   length-put = by-fit (length-inside l at vs) (λ h. ap length (put-outside h))
 
-  -- every word before and after those that are put keeps its value
+  -- every element before and after those that are put keeps its value
   pub put-elsewhere : (j : ℕ) → (at + length vs ≤ j) ⊎ (j < at) → getD (putAt l at vs) j 0 ≡ getD l j 0
   put-elsewhere j apart =
       by-fit (λ h. ⊎-elim (put-after l at vs h j) (put-before l at vs h j) apart) (λ h. ap (λ (s : List ℕ). getD s j 0) (put-outside h))
 
-  -- what lies wholly before or after the words that are put is as it was
+  -- what lies wholly before or after what is put is as it was
   pub part-put-apart : (w a : ℕ) → (at + length vs ≤ a) ⊎ (a + w ≤ at) → part w a (putAt l at vs) ≡ part w a l
   part-put-apart w a apart =
       part-agree w a (putAt l at vs) l length-put
@@ -119,19 +128,29 @@ module _ (l : List ℕ) (at : ℕ) (vs : List ℕ) where
 -- The tests and the loop of the code.
 module _ (l : List ℕ) (at : ℕ) (vs : List ℕ) where
   -- the start lies past the end
+  pub fits-past : length l < at → false ≡ fitsAt l at vs
+  fits-past h = sym (fits-outside l at vs (omega arith))
+
   pub put-past : length l < at → l ≡ putAt l at vs
   put-past h = sym (put-outside l at vs (omega arith))
 
-  -- the words are more than there is room for
+  -- there is more than there is room for
+  pub fits-long : at ≤ length l → length l - at < length vs → false ≡ fitsAt l at vs
+  fits-long h k = sym (fits-outside l at vs (omega arith))
+
   pub put-long : at ≤ length l → length l - at < length vs → l ≡ putAt l at vs
   put-long h k = sym (put-outside l at vs (omega arith))
 
-  -- one more word is in place
+  -- there is room
+  pub fits-room : at ≤ length l → length vs ≤ length l - at → true ≡ fitsAt l at vs
+  fits-room h k = sym (fits-inside l at vs (omega arith))
+
+  -- one more element is in place
   pub put-step : (t : List ℕ) (i : ℕ) → at + length vs ≤ length l → i < length vs → t ≡ paste l at vs i
       → set t (at + i) (getD vs i 0) ≡ paste l at vs (i + 1)
   put-step t i fits h e = rw (e, add-one) (paste-suc l at vs i 0 (omega arith) h)
 
-  -- all words are in place
+  -- all of them are in place
   pub put-all : (t : List ℕ) (i : ℕ) → at + length vs ≤ length l → i ≤ length vs → length vs ≤ i → t ≡ paste l at vs i → t ≡ putAt l at vs
   put-all t i fits h k e =
       let q : i ≡ length vs = omega arith in
@@ -140,7 +159,7 @@ module _ (l : List ℕ) (at : ℕ) (vs : List ℕ) where
       ∙ ap (λ (r : List ℕ). take at l ++ r ++ drop (at + length vs) l) (take-length vs)
       ∙ sym (put-inside l at vs fits)
 
--- What answers the needs of `put` and `get`, and those of the loop.
-pub ruleset parts = (part-range, part-rest, part-none, put-past, put-long, needs)
+-- What answers the needs of code that takes a part or tests whether values fit, and of a loop that stores them.
+pub ruleset parts = (part-range, part-rest, part-none, fits-past, put-past, fits-long, put-long, fits-room, needs)
 
 pub ruleset stores = (paste-zero, put-step, put-all, length-set, needs)
