@@ -6,15 +6,16 @@ use mathlib.Core.Logic.{_↔_}
 use Prim.Native.Nat.{ℕ, zero, suc, _+_, _-_, _≤_, _<_, _%_, _^_}
 use native.Mathlib.Nat.{le-refl, le-of-lt, le-suc}
 use native.Mathlib.Omega.{arith}
-use lib.Dec.{leb, ltb, eqb}
+use lib.Dec.{ltb, eqb}
+use lib.ListN.{length, getD}
 use borrow.Author.Needs.{needs}
-use borrow.Author.Tests.{le-leb, lt-leb, leb-true, leb-false, ltb-true, ltb-false, eq-eqb, ne-eqb, eqb-true, eqb-false}
+use borrow.Author.Tests.{ltb-true, ltb-false, eq-eqb, ne-eqb, eqb-true, eqb-false}
 use Rattle.idmap.specs.declared.Line.{Line}
 use Rattle.idmap.specs.declared.Translated.the-variants.{Id, Unmapped}
-use Rattle.idmap.specs.Line.{less, more, inRange}
+use Rattle.idmap.specs.Line.{less, more, inRange, noLine}
 use Rattle.idmap.specs.Lookup.{movedBy, out, reachOf}
 use Rattle.idmap.specs.Good.{noId, goodOf, Within}
-use Rattle.idmap.specs.Cover.{coveredIn, coveredOf, Mapped}
+use Rattle.idmap.specs.Cover.{coveredIn, coveredOf, HasLine, Mapped}
 use Rattle.prelude.proofs.Tests.{by-test}
 use Rattle.idmap.proofs.Interval.{in-interval, interval-in}
 use Rattle.idmap.proofs.Goodness.{good-first, good-others}
@@ -93,7 +94,7 @@ nowhere-to ls at last t z = nowhere ls at last (less last at) t z
 
 past-to : (ls : List Line) (at last : ℕ) → at < 2 ^ 32 → last < 2 ^ 32 → inRange last at (reachOf ls at) ≡ false → (reachOf ls at ≡ 0 → ⊥) → coveredTo ls at last ≡ coveredTo ls (more at (reachOf ls at)) last
 unfolding coveredTo
-past-to ls at last a b t z = 
+past-to ls at last a b t z =
     let h = ltb-false (less last at) (reachOf ls at) t in
     let e = step-left at last (reachOf ls at) a b h in
     enough (less last at) (suc (less last at)) ls at last a b (le-refl (less last at)) (le-suc (less last at))
@@ -202,17 +203,47 @@ all-covered (suc k) ls at last p b c f =
     past-to ls at last (omega arith) (omega arith) t z
     ∙ rw m (all-covered k ls (at + reachOf ls at) last (omega arith) (omega arith) c (λ x lo hi. f x (omega arith) hi)))
 
--- covered holds exactly when each single ID of the range has a line
-pub covered-means : (ls : List Line) (start count : ℕ) → goodOf ls ≡ true → start + count ≤ noId → (coveredOf ls start count ≡ true) ↔ ((x : ℕ) → Within x start count → Mapped ls x)
-covered-means ls start count g b = by-test (eqb count 0)
+-- covered holds exactly when each single ID of the range is mapped
+pub covered-mapped : (ls : List Line) (start count : ℕ) → goodOf ls ≡ true → start + count ≤ noId → (coveredOf ls start count ≡ true) ↔ ((x : ℕ) → Within x start count → Mapped ls x)
+covered-mapped ls start count g b = by-test (eqb count 0)
     (λ t. let z = eqb-true count 0 t in ((λ e x w. absurd (omega arith)), (λ f. sym (covered-empty ls start count z))))
     (λ t.
     let z = eqb-false count 0 t in
     let last : more start (count - 1) ≡ start + count - 1 = omega arith in
-    let same = covered-starts ls start count (start + count - 1) (omega arith) (omega arith) z (sym last) in
-    (
+    let same = covered-starts ls start count (start + count - 1) (omega arith) (omega arith) z (sym last) in (
       (λ e x w. covered-all (suc count) ls start (start + count - 1) g (omega arith) (omega arith) (omega arith) (sym same ∙ e) x (w .0) (omega arith)),
       λ f. same ∙ all-covered (suc count) ls start (start + count - 1) (omega arith) (omega arith) (omega arith) (λ x lo hi. f x (lo, omega arith)),
     ))
+
+-- an ID is mapped exactly when a line holds it
+mapped-line : (ls : List Line) (x y : ℕ) → goodOf ls ≡ true → x < 2 ^ 32 → out ls x ≡ Id y → HasLine ls x
+unfolding out
+mapped-line [] x y g small e = absurd (two-answers e)
+mapped-line (l ∷ ls) x y g small e =
+    by-test (inRange x (l .inside) (l .count))
+    (λ t. (0, omega arith, in-interval x (l .inside) (l .count) small (good-first l ls g .inside-fits) t))
+    (λ t.
+    let h = mapped-line ls x y (good-others l ls g) small (sym (out-later l ls x t) ∙ e) in
+    (suc (h .0), omega (arith, h .1), h .2))
+
+line-mapped : (ls : List Line) (x i : ℕ) → goodOf ls ≡ true → x < 2 ^ 32 → i < length ls → Within x (getD ls i noLine .inside) (getD ls i noLine .count) → Mapped ls x
+line-mapped [] x i g small h w = absurd (omega arith)
+line-mapped (l ∷ ls) x zero g small h w =
+    (movedBy l x, out-here l ls x (interval-in x (l .inside) (l .count) small (good-first l ls g .inside-fits) w))
+line-mapped (l ∷ ls) x (suc i) g small h w =
+    let m = line-mapped ls x i (good-others l ls g) small (omega arith) w in
+    by-test (inRange x (l .inside) (l .count))
+    (λ t. (movedBy l x, out-here l ls x t))
+    (λ t. (m .0, out-later l ls x t ∙ m .1))
+
+pub mapped-means : (ls : List Line) (x : ℕ) → goodOf ls ≡ true → x < 2 ^ 32 → Mapped ls x ↔ HasLine ls x
+mapped-means ls x g small = ((λ m. mapped-line ls x (m .0) g small (m .1)), λ h. line-mapped ls x (h .0) g small (h .1) (h .2))
+
+-- covered holds exactly when each single ID of the range has a line
+pub covered-means : (ls : List Line) (start count : ℕ) → goodOf ls ≡ true → start + count ≤ noId → (coveredOf ls start count ≡ true) ↔ ((x : ℕ) → Within x start count → HasLine ls x)
+covered-means ls start count g b = (
+  (λ e x w. mapped-means ls x g (omega arith) .0 (covered-mapped ls start count g b .0 e x w)),
+  λ f. covered-mapped ls start count g b .1 (λ x w. mapped-means ls x g (omega arith) .1 (f x w)),
+)
 
 pub ruleset covers = (covered-empty, covered-starts, covered-yes, covered-no, covered-on, covered-falls, more-small, needs)

@@ -11,3 +11,4 @@ pub mod FirstLine
 pub mod Texts
 pub mod Shows
 pub mod ReadBack
+pub mod Examples

@@ -1,13 +1,15 @@
 -- Whether a range of IDs is covered by the lines of a map, also where it runs across several of them. Assumes nothing.
-use Prim.Native.Nat.{ℕ, zero, suc, _-_}
+use Prim.Native.Nat.{ℕ, zero, suc, _-_, _<_}
 use mathlib.Core.Bool.{Bool, true, false, cond}
 use mathlib.Core.List.{List}
 use mathlib.Core.Path.{_≡_}
 use lib.Dec.{eqb}
+use lib.ListN.{length, getD}
 use Rattle.idmap.specs.declared.Line.{Line}
 use Rattle.idmap.specs.declared.Translated.the-variants.{Id}
-use Rattle.idmap.specs.Line.{more, inRange}
+use Rattle.idmap.specs.Line.{more, inRange, noLine}
 use Rattle.idmap.specs.Lookup.{out, reachOf}
+use Rattle.idmap.specs.Good.{Within}
 
 -- a line that holds the ID at holds last too, or the same is so of the ID past that line's end; in at most k steps past the first line
 unfoldable pub coveredIn : ℕ → List Line → ℕ → ℕ → Bool
@@ -22,6 +24,11 @@ coveredIn (suc k) ls at last =
 unfoldable pub coveredOf : List Line → ℕ → ℕ → Bool
 coveredOf ls start count = cond (eqb count 0) true (coveredIn count ls start (more start (count - 1)))
 
--- document 01: an ID is mapped if it has a translation out. That coveredOf says this of each ID of the range is a law
+-- ---- what coveredOf says of each single ID of the range, by a law
+-- a line holds the ID
+abbrev pub HasLine : List Line → ℕ → Type 0
+HasLine ls x = (i : ℕ) × (i < length ls) × Within x (getD ls i noLine .inside) (getD ls i noLine .count)
+
+-- document 01: an ID is mapped if it has a translation out
 abbrev pub Mapped : List Line → ℕ → Type 0
 Mapped ls x = (y : ℕ) × (out ls x ≡ Id y)
