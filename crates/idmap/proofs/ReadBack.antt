@@ -108,7 +108,7 @@ solid-column : (v : ℕ) → Solid (columnOf v ∷ [])
 solid-column v = by-column v (λ e c. rw c (refl, tt)) (λ c. rw c (solid-digit v))
 
 solid-shown : (k v : ℕ) → Solid (shown k v)
-unfolding Solid shown
+unfolding shown
 solid-shown zero v = tt
 solid-shown (suc k) v = solid-append (shown k (v / 10)) (columnOf v ∷ []) (solid-shown k (v / 10)) (solid-column v)
 

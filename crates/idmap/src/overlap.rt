@@ -54,13 +54,13 @@ fn apart(l: Line, m: Line) -> bool
 fn clear(l: Line, lines: [Line; MAX_LINES], n: usize, from: usize) -> bool
     ensures { λ r. ⌜ r ≡ allApart l (drop from (take n lines)) ⌝ }
 {
-    let mut i = from;
-    while i < MAX_LINES {
-        if n <= i {
+    let mut j = from;
+    while j < MAX_LINES {
+        if n <= j {
             return true;
         }
-        if apart(l, lines[i]) {
-            i += 1;
+        if apart(l, lines[j]) {
+            j += 1;
         } else {
             return false;
         }

@@ -8,10 +8,10 @@ use Rattle.idmap.proofs.overlap.clear.Statement.{statement}
 use Rattle.idmap.proofs.overlap.clear.Tie as tie
 
 abbrev Inv-loop : tie.InvT-loop
-Inv-loop l n from lines i₀ i = allApart l (drop from (take n lines)) ≡ allApart l (drop i (take n lines))
+Inv-loop l n from lines j₀ j = allApart l (drop from (take n lines)) ≡ allApart l (drop j (take n lines))
 
 abbrev μ-loop : tie.MeasureT-loop
-μ-loop l n from lines i₀ i = maxLines - i
+μ-loop l n from lines j₀ j = maxLines - j
 
 pub clear-spec : {M : Type 1} → statement M
 clear-spec =
@@ -21,7 +21,7 @@ clear-spec =
     (λ c. search overlaps)  -- mul-apart
     (λ c. search overlaps)  -- array-copy-out-apart
     (λ c κs. search overlaps)  -- apart-requires
-    (λ c. search overlaps)  -- add-i
+    (λ c. search overlaps)  -- add-j
     (λ c. search overlaps)  -- loop-less
     (λ c. search overlaps)  -- loop-again
     (λ c. search overlaps)  -- returns-2
