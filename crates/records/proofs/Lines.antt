@@ -1,0 +1,88 @@
+-- The written lines of a map, read where their words stand. Assumes nothing.
+use Prim.Native.Nat.{ℕ, zero, suc, _+_, _-_, _*_, _≤_, _<_}
+use mathlib.Core.Path.{_≡_, refl, sym, ap, ap₂, _∙_}
+use mathlib.Core.List.{List, [], _∷_}
+use native.Mathlib.Nat.{suc-mul}
+use native.Mathlib.Numerals.{add-one, add-two, add-three}
+use native.Mathlib.Omega.{arith}
+use lib.Dec.{eqb}
+use lib.ListN.{length, getD, take, drop}
+use lib.Seq.{drop-cons, drop-drop, take-take, take-nil}
+use borrow.Author.Needs.{needs}
+use borrow.Author.Tests.{eq-eqb, ne-eqb}
+use Rattle.prelude.specs.Parts.{part}
+use Rattle.prelude.proofs.Parts.{length-part}
+use Rattle.idmap.specs.declared.Line.{Line}
+use Rattle.idmap.specs.Line.{lineOfWords, lineAt, linesIn}
+use Rattle.rows.specs.Rows.{rows, tab}
+use Rattle.records.specs.Records.{mapOf, mapFrom, linesOf}
+use Rattle.records.specs.declared.IdMap.{IdMap}
+use Rattle.records.proofs.Records.{map-whole, map-other}
+
+-- ---- lists made element by element
+tab-same : {A : Type 0} (f g : ℕ → A) (n k : ℕ) → ((j : ℕ) → f j ≡ g j) → tab f n k ≡ tab g n k
+tab-same f g zero k e = refl
+tab-same {A} f g (suc n) k e = ap₂ (λ (x : A) (xs : List A). x ∷ xs) (e k) (tab-same f g n (suc k) e)
+
+tab-next : {A : Type 0} (f : ℕ → A) (n k : ℕ) → tab (λ (j : ℕ). f (suc j)) n k ≡ tab f n (suc k)
+tab-next f zero k = refl
+tab-next {A} f (suc n) k = ap (λ (xs : List A). f (suc k) ∷ xs) (tab-next f n (suc k))
+
+tab-front : {A : Type 0} (f : ℕ → A) (n m k : ℕ) → n ≤ m → take n (tab f m k) ≡ tab f n k
+tab-front f zero m k h = refl
+tab-front f (suc n) zero k h = absurd (omega arith)
+tab-front {A} f (suc n) (suc m) k h = ap (λ (xs : List A). f k ∷ xs) (tab-front f n m (suc k) (omega arith))
+
+tab-whole : {A : Type 0} (f : ℕ → A) (n m k : ℕ) → m ≤ n → take n (tab f m k) ≡ tab f m k
+tab-whole f zero zero k h = refl
+tab-whole f zero (suc m) k h = absurd (omega arith)
+tab-whole f (suc n) zero k h = refl
+tab-whole {A} f (suc n) (suc m) k h = ap (λ (xs : List A). f k ∷ xs) (tab-whole f n m (suc k) (omega arith))
+
+-- ---- the lines that words hold, one by one
+line-front : (ws : List ℕ) (n : ℕ) → linesIn (take (suc n * 3) ws) ≡ linesIn (take (suc (suc (suc (n * 3)))) ws)
+line-front ws n = let e : suc n * 3 ≡ suc (suc (suc (n * 3))) = omega (arith, suc-mul n 3) in rw e
+
+lines-words : (ws : List ℕ) (n k : ℕ) → k + n * 3 ≤ length ws → linesIn (take (n * 3) (drop k ws)) ≡ tab (λ (j : ℕ). lineAt ws (k + 3 * j)) n 0
+unfolding linesIn
+lines-words ws zero k h = refl
+lines-words ws (suc n) k h =
+    let m = suc-mul n 3 in
+    let step : (j : ℕ) → lineAt ws (k + 3 + 3 * j) ≡ lineAt ws (k + 3 * suc j) = λ j. ap (lineAt ws) (omega arith) in
+    let e₀ : k ≡ k + 0 = omega arith in
+    let e₁ : suc k ≡ k + 0 + 1 = omega arith in
+    let e₂ : suc (suc k) ≡ k + 0 + 2 = omega arith in
+    line-front (drop k ws) n
+    ∙ rw (drop-cons ws k 0 (omega arith), drop-cons ws (suc k) 0 (omega arith), drop-cons ws (suc (suc k)) 0 (omega arith), ← add-three k)
+    (ap₂ (λ (x : Line) (xs : List Line). x ∷ xs)
+    (λ i. lineOfWords (getD ws (e₀ i) 0) (getD ws (e₁ i) 0) (getD ws (e₂ i) 0))
+    (lines-words ws n (k + 3) (omega arith) ∙ tab-same (λ (j : ℕ). lineAt ws (k + 3 + 3 * j)) (λ (j : ℕ). lineAt ws (k + 3 * suc j)) n 0 step ∙ tab-next (λ (j : ℕ). lineAt ws (k + 3 * j)) n 0))
+
+-- ---- written_lines
+module _ (ws r : List ℕ) (long : length ws ≡ 17) where
+  pub written-some : (n : ℕ) → n ≡ getD ws 1 0 → getD ws 0 0 ≡ 1 → n < 5 → r ≡ part (n * 3) 2 ws → linesIn r ≡ linesOf (mapOf ws)
+  unfolding part
+  written-some n e t h q =
+      q′ ∙ rw (eq-eqb (getD ws 0 0) 1 t, ← e) (sym (tab-front (λ (j : ℕ). lineAt ws (2 + 3 * j)) n 5 0 (omega arith)))
+    where
+      q′ : linesIn r ≡ tab (λ (j : ℕ). lineAt ws (2 + 3 * j)) n 0
+      q′ = ap linesIn q ∙ lines-words ws n 2 (omega arith)
+
+  pub written-all : (n : ℕ) → n ≡ getD ws 1 0 → getD ws 0 0 ≡ 1 → 5 ≤ n → r ≡ part 15 2 ws → linesIn r ≡ linesOf (mapOf ws)
+  unfolding part
+  written-all n e t h q =
+      ap linesIn q ∙ lines-words ws 5 2 (omega arith) ∙ rw (eq-eqb (getD ws 0 0) 1 t, ← e) (sym (tab-whole (λ (j : ℕ). lineAt ws (2 + 3 * j)) n 5 0 h))
+
+  pub written-none : (getD ws 0 0 ≡ 1 → ⊥) → r ≡ part 0 2 ws → linesIn r ≡ linesOf (mapOf ws)
+  unfolding part linesIn
+  written-none t q = ap linesIn q ∙ rw (ne-eqb (getD ws 0 0) 1 t)
+
+-- ---- lines_of
+pub lines-whole : (ws r : List ℕ) → length ws ≡ 17 → linesIn r ≡ linesOf (mapOf ws) → linesIn r ≡ linesOf (mapFrom ws)
+lines-whole ws r h e = e ∙ ap (λ (m : IdMap). linesOf m) (sym (map-whole ws h))
+
+pub lines-other : (ws r : List ℕ) → (length ws ≡ 17 → ⊥) → r ≡ part 0 0 ws → linesIn r ≡ linesOf (mapFrom ws)
+unfolding part linesIn
+lines-other ws r h e = ap linesIn e ∙ ap (λ (m : IdMap). linesOf m) (sym (map-other ws h))
+
+pub ruleset lines = (written-some, written-all, written-none, lines-whole, lines-other, needs)

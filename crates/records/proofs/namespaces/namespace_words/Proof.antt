@@ -1,0 +1,34 @@
+use mathlib.Core.Path.{_≡_}
+use lib.ListN.{length}
+use mir.Val.{Fits}
+use mir.Syntax.{w32}
+use Rattle.records.proofs.Records.{namespace-round}
+use borrow.Author.Needs.{needs}
+use Rattle.records.proofs.namespaces.namespace_words.Statement.{statement}
+use Rattle.records.proofs.namespaces.namespace_words.Tie as tie
+
+long-users : (c : tie.After-map-words) → length (c .map-words .result) ≡ 17
+long-users c = search needs
+
+long-groups : (c : tie.After-map-words2) → length (c .map-words2 .result) ≡ 17
+long-groups c = search needs
+
+owner-fits : (c : tie.Start) → Fits w32 (c .args .n .owner)
+owner-fits c = search needs
+
+-- src/namespaces.rt:37:1
+returns : tie.Need-returns
+returns c =
+    namespace-round (c .before .before .before .before .before .before .before .args .n) _ _ (c .before .before .before .before .map-words .result) (c .before .before .before .map-words2 .result) (c .before .before .flag-word .ensures) (c .flag-word2 .ensures) (long-users (c .before .before .before .before)) (long-groups (c .before .before .before))
+    (c .before .before .before .before .map-words .ensures) (c .before .before .before .map-words2 .ensures) (owner-fits (c .before .before .before .before .before .before .before))
+
+pub namespace-words-spec : {M : Type 1} → statement M
+namespace-words-spec =
+    tie.close
+    (tie.spec
+    (λ c κs. search needs) (λ c κs. search needs) (λ c κs. search needs) (λ c. search needs) (λ c. search needs) (λ c. search needs)
+    (λ c. search needs) (λ c. search needs) (λ c. search needs) (λ c. search needs) (λ c. search needs) (λ c. search needs) (λ c. search needs)
+    (λ c. search needs) (λ c. search needs) (λ c. search needs) (λ c. search needs) (λ c. search needs) (λ c. search needs) (λ c. search needs)
+    (λ c. search needs) (λ c. search needs) (λ c. search needs) (λ c. search needs) (λ c. search needs) (λ c. search needs) (λ c. search needs)
+    (λ c. search needs) (λ c. search needs) (λ c. search needs) (λ c. search needs) (λ c. search needs) (λ c. search needs) (λ c. search needs)
+    (λ c. search needs) (λ c. search needs) (λ c. search needs) (λ c. search needs) (λ c κs. search needs) returns)

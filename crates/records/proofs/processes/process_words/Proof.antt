@@ -1,0 +1,31 @@
+use Prim.Native.Nat.{ℕ}
+use mathlib.Core.Path.{_≡_}
+use lib.ListN.{length, getD}
+use mir.Val.{Fits}
+use mir.Syntax.{w32}
+use borrow.Author.Needs.{needs}
+use Rattle.records.proofs.Records.{NarrowIds, process-round}
+use Rattle.records.proofs.processes.process_words.Statement.{statement}
+use Rattle.records.proofs.processes.process_words.Tie as tie
+
+-- what is known of the record where the function starts
+facts : (c : tie.Start) → (length (c .args .p .supplementary .ids) ≡ 16) × NarrowIds (c .args .p .users) × NarrowIds (c .args .p .groups) × ((j : ℕ) → Fits w32 (getD (c .args .p .supplementary .ids) j 0))
+facts c =
+    (search needs, record { real = search needs; effective = search needs; saved = search needs }, record { real = search needs; effective = search needs; saved = search needs }, λ j. search needs)
+
+-- src/processes.rt:68:1
+returns : tie.Need-returns
+returns c =
+    let start = c .before .before .before .before .before .before .before .before .before .before .before .before in
+    let known = facts start in
+    process-round (start .args .p) _ _ (c .before .before .before .before .before .before .flag-word .ensures)
+    (c .before .before .before .before .before .before .before .group-words .ensures) (known .0) (known .1) (known .2) (known .3)
+
+pub process-words-spec : {M : Type 1} → statement M
+process-words-spec =
+    tie.close
+    (tie.spec
+    (λ c κs. search needs) (λ c κs. search needs) (λ c. search needs) (λ c. search needs) (λ c. search needs) (λ c. search needs) (λ c. search needs)
+    (λ c. search needs) (λ c. search needs) (λ c. search needs) (λ c. search needs) (λ c. search needs) (λ c. search needs) (λ c. search needs)
+    (λ c. search needs) (λ c. search needs) (λ c. search needs) (λ c. search needs) (λ c. search needs) (λ c. search needs) (λ c. search needs)
+    (λ c. search needs) (λ c. search needs) (λ c. search needs) returns)

@@ -1,0 +1,121 @@
+-- The records of the tables, and the rows of words that hold them. Nothing here is to be believed but that the layout loses nothing:
+-- a record's words are read as the record (proofs/Records.antt). Assumes nothing.
+use Prim.Native.Nat.{ℕ, zero, suc, _+_, _*_, _%_}
+use mathlib.Core.List.{List, [], _∷_, _++_}
+use mathlib.Core.Bool.{Bool, true, false, cond}
+use lib.ListN.{length, getD, take, drop, replicate}
+use lib.Dec.{eqb}
+use Rattle.capability.specs.Sets.{emptySet}
+use Rattle.idmap.specs.declared.Line.{Line}
+use Rattle.idmap.specs.Line.{noLine, lineAt}
+use Rattle.idmap.specs.Good.{maxLines}
+use Rattle.rows.specs.Rows.{tab}
+use Rattle.records.specs.declared.Kind.{Kind}
+use Rattle.records.specs.declared.Kind.the-variants.{User, Group}
+use Rattle.records.specs.declared.Ids.{Ids}
+use Rattle.records.specs.declared.Process.{Process}
+use Rattle.records.specs.declared.MapState.{MapState}
+use Rattle.records.specs.declared.MapState.the-variants.{Unwritten, Written}
+use Rattle.records.specs.declared.IdMap.{IdMap}
+use Rattle.records.specs.declared.Namespace.{Namespace}
+
+abbrev pub flagWord : Bool → ℕ
+flagWord b = cond b 1 0
+
+abbrev pub lowOf : ℕ → ℕ
+lowOf w = w % 4294967296
+
+abbrev pub lowAt : List ℕ → ℕ → ℕ
+lowAt r k = lowOf (getD r k 0)
+
+-- ---- processes
+abbrev pub idsAt : List ℕ → ℕ → Ids
+idsAt r k = record { real = lowAt r k; effective = lowAt r (k + 1); saved = lowAt r (k + 2) }
+
+abbrev pub idsWords : Ids → List ℕ
+idsWords i = i .real ∷ i .effective ∷ i .saved ∷ []
+
+abbrev pub processOf : List ℕ → Process
+processOf r = record {
+  live = eqb (getD r 0 0) 1;
+  namespace = getD r 1 0;
+  users = idsAt r 2;
+  groups = idsAt r 5;
+  supplementary = record { count = getD r 8 0; ids = tab (lowAt r) 16 9 };
+  permitted = record { bits = getD r 25 0 };
+  effective = record { bits = getD r 26 0 };
+}
+
+-- document 01: a place of the process table that is free
+abbrev pub freeProcess : Process
+freeProcess = record {
+  live = false;
+  namespace = 0;
+  users = record { real = 0; effective = 0; saved = 0 };
+  groups = record { real = 0; effective = 0; saved = 0 };
+  supplementary = record { count = 0; ids = replicate 16 0 };
+  permitted = record { bits = emptySet };
+  effective = record { bits = emptySet };
+}
+
+-- ---- maps and namespaces
+abbrev pub stateOf : ℕ → ℕ → MapState
+stateOf tag n = cond (eqb tag 1) (Written n) Unwritten
+
+-- a map's 17 words: whether it is written, with how many lines, and five lines of three words
+abbrev pub mapOf : List ℕ → IdMap
+mapOf ws = record { state = stateOf (getD ws 0 0) (getD ws 1 0); lines = tab (λ (j : ℕ). lineAt ws (2 + 3 * j)) maxLines 0 }
+
+abbrev pub freeMap : IdMap
+freeMap = record { state = Unwritten; lines = replicate maxLines noLine }
+
+abbrev pub namespaceOf : List ℕ → Namespace
+namespaceOf r = record {
+  live = eqb (getD r 0 0) 1;
+  parent = getD r 1 0;
+  level = getD r 2 0;
+  owner = lowAt r 3;
+  users = mapOf (take 17 (drop 4 r));
+  groups = mapOf (take 17 (drop 21 r));
+  deny = eqb (getD r 38 0) 1;
+}
+
+-- document 01: a number that no namespace has
+abbrev pub freeNamespace : Namespace
+freeNamespace = record { live = false; parent = 0; level = 0; owner = 0; users = freeMap; groups = freeMap; deny = false }
+
+-- the words of a map's state
+abbrev pub stateTag : MapState → ℕ
+stateTag Unwritten = 0
+stateTag (Written n) = 1
+
+abbrev pub stateCount : MapState → ℕ
+stateCount Unwritten = 0
+stateCount (Written n) = n
+
+-- ---- rows of any length: another length than a record's holds none
+unfoldable pub processFrom : List ℕ → Process
+processFrom r = cond (eqb (length r) 27) (processOf r) freeProcess
+
+unfoldable pub mapFrom : List ℕ → IdMap
+mapFrom ws = cond (eqb (length ws) 17) (mapOf ws) freeMap
+
+unfoldable pub namespaceFrom : List ℕ → Namespace
+namespaceFrom r = cond (eqb (length r) 39) (namespaceOf r) freeNamespace
+
+-- ---- by kind: user IDs by the user maps, group IDs by the group maps
+abbrev pub idsIn : Kind → Process → Ids
+idsIn User p = p .users
+idsIn Group p = p .groups
+
+abbrev pub mapIn : Kind → Namespace → IdMap
+mapIn User n = n .users
+mapIn Group n = n .groups
+
+-- the lines of a map: none until it is written
+abbrev pub linesIf : MapState → List Line → List Line
+linesIf Unwritten ls = []
+linesIf (Written n) ls = take n ls
+
+abbrev pub linesOf : IdMap → List Line
+linesOf m = linesIf (m .state) (m .lines)

@@ -1,0 +1,4 @@
+pub mod Tables
+pub mod Finding
+pub mod Filling
+pub mod Lines

@@ -1,0 +1,70 @@
+-- The written lines of a namespace's map, where they stand in the tables. Assumes nothing.
+use Prim.Native.Nat.{ℕ, zero, suc, _+_, _-_, _*_, _≤_, _<_}
+use mathlib.Core.Path.{_≡_, refl, sym, ap, ap₂, _∙_}
+use mathlib.Core.List.{List, [], _∷_}
+use native.Mathlib.Nat.{suc-mul}
+use native.Mathlib.Numerals.{add-one, add-two, add-three}
+use native.Mathlib.Omega.{arith}
+use lib.Dec.{eqb}
+use lib.ListN.{length, getD, take, drop}
+use lib.Seq.{drop-cons, drop-drop, take-take, take-nil}
+use borrow.Author.Needs.{needs}
+use borrow.Author.Tests.{eq-eqb, ne-eqb}
+use Rattle.prelude.specs.Parts.{part}
+use Rattle.prelude.proofs.Parts.{length-part}
+use Rattle.idmap.specs.declared.Line.{Line}
+use Rattle.idmap.specs.Line.{lineOfWords, lineAt, linesIn}
+use Rattle.rows.specs.Rows.{rows, tab}
+use Rattle.rows.proofs.Rows.{row-get, row-none}
+use Rattle.records.proofs.Records.{map-whole}
+use Rattle.records.specs.declared.IdMap.{IdMap}
+use Rattle.records.specs.declared.Kind.{Kind}
+use Rattle.records.specs.declared.Kind.the-variants.{User, Group}
+use Rattle.records.specs.Records.{mapOf, mapFrom, namespaceOf, freeNamespace, mapIn, linesOf}
+use Rattle.tables.specs.Tables.{tablesOf, namespaceAt}
+
+-- ---- map_lines
+-- a part of a part
+drop-take : (a v : ℕ) (x : List ℕ) → drop a (take v x) ≡ take (v - a) (drop a x)
+drop-take zero v x = let e : v ≡ v - 0 = omega arith in ap (λ (k : ℕ). take k x) e
+drop-take (suc a) zero x = let e : 0 - suc a ≡ 0 = omega arith in rw e
+drop-take (suc a) (suc v) [] = sym (take-nil (suc v - suc a))
+drop-take (suc a) (suc v) (c ∷ x) = let e : suc v - suc a ≡ v - a = omega arith in drop-take a v x ∙ rw e
+
+part-part : (w a v b : ℕ) (l : List ℕ) → a + w ≤ v → take w (drop a (part v b l)) ≡ part w (b + a) l
+unfolding part
+part-part w a v b l h = rw (drop-take a v (drop b l), take-take w (v - a) (drop a (drop b l)) (omega arith), drop-drop a b l)
+
+-- a namespace past the table has no lines, of either kind
+no-lines : (k : Kind) → linesOf (mapIn k freeNamespace) ≡ []
+no-lines User = refl
+no-lines Group = refl
+
+module _ (l : List ℕ) (place : ℕ) where
+  pub lines-past : (k : Kind) (r : List ℕ) → 64 ≤ place → r ≡ part 0 0 l → linesIn r ≡ linesOf (mapIn k (namespaceAt (tablesOf l) place))
+  unfolding part linesIn tablesOf namespaceAt
+  lines-past k r h q = ap linesIn q ∙ sym (rw (row-none namespaceOf 39 64 3456 l place freeNamespace h) (no-lines k))
+
+  -- where a map's words stand
+  map-at : (a : ℕ) → a + 17 ≤ 39 → take 17 (drop a (part 39 (3456 + place * 39) l)) ≡ part 17 (3456 + place * 39 + a) l
+  map-at a h = part-part 17 a 39 (3456 + place * 39) l h
+
+  module _ (long : length l ≡ 5952) (h : place < 64) (w : List ℕ) where
+    module _ (k : Kind) (r : List ℕ) (read : linesIn r ≡ linesOf (mapFrom w)) where
+      pub lines-users : w ≡ part 17 (3460 + place * 39) l → k ≡ User → linesIn r ≡ linesOf (mapIn k (namespaceAt (tablesOf l) place))
+      unfolding tablesOf namespaceAt
+      lines-users e q =
+          let z : 3460 + place * 39 ≡ 3456 + place * 39 + 4 = omega arith in
+          let same : w ≡ take 17 (drop 4 (part 39 (3456 + place * 39) l)) = e ∙ ap (λ (a : ℕ). part 17 a l) z ∙ sym (map-at 4 (omega arith)) in
+          let whole = map-whole w (rw e (length-part 17 (3460 + place * 39) l (omega arith))) in
+          read ∙ ap (λ (m : IdMap). linesOf m) whole ∙ rw (q, row-get namespaceOf 39 64 3456 l place freeNamespace (3456 + place * 39) refl h) (ap (λ (v : List ℕ). linesOf (mapOf v)) same)
+
+      pub lines-groups : w ≡ part 17 (3477 + place * 39) l → k ≡ Group → linesIn r ≡ linesOf (mapIn k (namespaceAt (tablesOf l) place))
+      unfolding tablesOf namespaceAt
+      lines-groups e q =
+          let z : 3477 + place * 39 ≡ 3456 + place * 39 + 21 = omega arith in
+          let same : w ≡ take 17 (drop 21 (part 39 (3456 + place * 39) l)) = e ∙ ap (λ (a : ℕ). part 17 a l) z ∙ sym (map-at 21 (omega arith)) in
+          let whole = map-whole w (rw e (length-part 17 (3477 + place * 39) l (omega arith))) in
+          read ∙ ap (λ (m : IdMap). linesOf m) whole ∙ rw (q, row-get namespaceOf 39 64 3456 l place freeNamespace (3456 + place * 39) refl h) (ap (λ (v : List ℕ). linesOf (mapOf v)) same)
+
+pub ruleset lines = (lines-past, lines-users, lines-groups, needs)

@@ -1,0 +1,83 @@
+-- What the load and the store of a row mean for the tables. Assumes nothing.
+use Prim.Native.Nat.{ℕ, _+_, _*_, _≤_, _<_}
+use mathlib.Core.Path.{_≡_, refl, sym, ap, _∙_}
+use mathlib.Core.List.{List}
+use mathlib.Core.Logic.{inl, inr}
+use native.Mathlib.Omega.{arith}
+use lib.ListN.{length, getD, set}
+use borrow.Author.Needs.{needs}
+use Rattle.prelude.specs.Parts.{part, putAt}
+use Rattle.prelude.proofs.Parts.{length-part}
+use Rattle.rows.specs.Rows.{rows}
+use Rattle.rows.proofs.Rows.{row-put, row-get, row-none, row-out, rows-apart, length-rows}
+use Rattle.records.specs.declared.Process.{Process}
+use Rattle.records.specs.declared.Namespace.{Namespace}
+use Rattle.records.specs.Records.{processOf, processFrom, freeProcess, namespaceOf, namespaceFrom, freeNamespace}
+use Rattle.records.proofs.Records.{process-whole, namespace-whole}
+use Rattle.tables.specs.Tables.{State, tablesOf, processAt, namespaceAt, putProcess, putNamespace}
+
+pub length-processes : (l : List ℕ) → length (tablesOf l .processes) ≡ 128
+unfolding tablesOf
+length-processes l = length-rows processOf 27 128 0 l
+
+pub length-namespaces : (l : List ℕ) → length (tablesOf l .namespaces) ≡ 64
+unfolding tablesOf
+length-namespaces l = length-rows namespaceOf 39 64 3456 l
+
+state : {ps ps′ : List Process} {ns ns′ : List Namespace} → ps ≡ ps′ → ns ≡ ns′ → _≡_ {A = State} (record { processes = ps; namespaces = ns }) (record { processes = ps′; namespaces = ns′ })
+state p q = λ i. record { processes = p i; namespaces = q i }
+
+-- ---- loads
+module _ (l row : List ℕ) (i k : ℕ) (long : length l ≡ 5952) where
+  pub process-get : (p : Process) → row ≡ part 27 k l → k ≡ i * 27 → i < 128 → p ≡ processFrom row → p ≡ processAt (tablesOf l) i
+  unfolding tablesOf processAt
+  process-get p read at h e =
+      e
+      ∙ process-whole row (rw read (length-part 27 k l (omega arith)))
+      ∙ ap processOf read
+      ∙ sym (row-get processOf 27 128 0 l i freeProcess k (omega arith) h)
+
+  pub namespace-get : (n : Namespace) → row ≡ part 39 k l → k ≡ 3456 + i * 39 → i < 64 → n ≡ namespaceFrom row → n ≡ namespaceAt (tablesOf l) i
+  unfolding tablesOf namespaceAt
+  namespace-get n read at h e =
+      e
+      ∙ namespace-whole row (rw read (length-part 39 k l (omega arith)))
+      ∙ ap namespaceOf read
+      ∙ sym (row-get namespaceOf 39 64 3456 l i freeNamespace k at h)
+
+module _ (l : List ℕ) (i : ℕ) where
+  pub process-none : (p : Process) → 128 ≤ i → p ≡ freeProcess → p ≡ processAt (tablesOf l) i
+  unfolding tablesOf processAt
+  process-none p h e = e ∙ sym (row-none processOf 27 128 0 l i freeProcess h)
+
+  pub namespace-none : (n : Namespace) → 64 ≤ i → n ≡ freeNamespace → n ≡ namespaceAt (tablesOf l) i
+  unfolding tablesOf namespaceAt
+  namespace-none n h e = e ∙ sym (row-none namespaceOf 39 64 3456 l i freeNamespace h)
+
+  -- ---- stores
+  pub process-out : (p : Process) → 128 ≤ i → tablesOf l ≡ putProcess (tablesOf l) i p
+  unfolding tablesOf
+  process-out p h = sym (state (row-out processOf 27 128 0 l i p h) refl)
+
+  pub namespace-out : (n : Namespace) → 64 ≤ i → tablesOf l ≡ putNamespace (tablesOf l) i n
+  unfolding tablesOf
+  namespace-out n h = sym (state refl (row-out namespaceOf 39 64 3456 l i n h))
+
+  module _ (l′ ws : List ℕ) (long : length l ≡ 5952) where
+    pub process-put : (p : Process) → length ws ≡ 27 → i < 128 → processOf ws ≡ p → l′ ≡ putAt l (i * 27) ws → tablesOf l′ ≡ putProcess (tablesOf l) i p
+    unfolding tablesOf
+    process-put p w h e q =
+        rw q
+        (state (row-put processOf 27 128 0 l i ws (i * 27) (omega arith) h w (omega arith) ∙ ap (set (rows processOf 27 128 0 l) i) e)
+        (rows-apart namespaceOf 39 64 3456 l (i * 27) ws (inl (omega arith))))
+
+    pub namespace-put : (n : Namespace) → length ws ≡ 39 → i < 64 → namespaceOf ws ≡ n → l′ ≡ putAt l (3456 + i * 39) ws → tablesOf l′ ≡ putNamespace (tablesOf l) i n
+    unfolding tablesOf
+    namespace-put n w h e q =
+        rw q
+        (state (rows-apart processOf 27 128 0 l (3456 + i * 39) ws (inr (omega arith)))
+        (row-put namespaceOf 39 64 3456 l i ws (3456 + i * 39) refl h w (omega arith) ∙ ap (set (rows namespaceOf 39 64 3456 l) i) e))
+
+pub ruleset loads = (process-get, namespace-get, process-none, namespace-none, needs)
+
+pub ruleset stores = (process-out, namespace-out, process-put, namespace-put, needs)

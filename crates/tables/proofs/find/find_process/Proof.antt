@@ -1,0 +1,13 @@
+-- `tables::find::find_process` meets its contract. Assumes nothing.
+use Rattle.tables.proofs.Finding.{finding}
+use Rattle.tables.proofs.find.find_process.Statement.{statement}
+use Rattle.tables.proofs.find.find_process.Tie as tie
+
+pub find-process-spec : {M : Type 1} → statement M
+find-process-spec =
+    tie.close (tie.spec
+    (λ c. search finding)  -- returns
+    (λ c. search finding)  -- sub-place
+    (λ c κs. search finding)  -- process-at-requires
+    (λ c. search finding)  -- returns-2
+    (λ c. search finding))  -- returns-3

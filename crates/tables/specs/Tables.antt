@@ -1,0 +1,73 @@
+-- The tables as a caller thinks of them: document 01, 'What stands in the tables'. Assumes nothing.
+use Prim.Native.Nat.{ℕ}
+use mathlib.Core.List.{List, [], _∷_}
+use mathlib.Core.Bool.{true, false}
+use lib.ListN.{getD, set, take, replicate}
+use Rattle.capability.specs.Sets.{fullSet}
+use Rattle.idmap.specs.declared.Line.{Line}
+use Rattle.idmap.specs.Line.{noLine}
+use Rattle.idmap.specs.Good.{maxLines, noId}
+use Rattle.idmap.specs.Text.{padded}
+use Rattle.rows.specs.Rows.{rows}
+use Rattle.records.specs.declared.Kind.{Kind}
+use Rattle.records.specs.declared.Kind.the-variants.{User, Group}
+use Rattle.records.specs.declared.Ids.{Ids}
+use Rattle.records.specs.declared.Process.{Process}
+use Rattle.records.specs.declared.MapState.{MapState}
+use Rattle.records.specs.declared.MapState.the-variants.{Unwritten, Written}
+use Rattle.records.specs.declared.IdMap.{IdMap}
+use Rattle.records.specs.declared.Namespace.{Namespace}
+use Rattle.records.specs.Records.{processOf, freeProcess, namespaceOf, freeNamespace}
+
+pub record State : Type 0 where
+  pub processes : List Process
+  pub namespaces : List Namespace
+
+-- the tables that the words of the lent array hold: 128 places for processes, 64 for namespaces
+unfoldable pub tablesOf : List ℕ → State
+tablesOf l = record { processes = rows processOf 27 128 0 l; namespaces = rows namespaceOf 39 64 3456 l }
+
+-- what stands in a place. A place past the end is free
+unfoldable pub processAt : State → ℕ → Process
+processAt s i = getD (s .processes) i freeProcess
+
+unfoldable pub namespaceAt : State → ℕ → Namespace
+namespaceAt s i = getD (s .namespaces) i freeNamespace
+
+abbrev pub putProcess : State → ℕ → Process → State
+putProcess s i p = record { processes = set (s .processes) i p; namespaces = s .namespaces }
+
+abbrev pub putNamespace : State → ℕ → Namespace → State
+putNamespace s i n = record { processes = s .processes; namespaces = set (s .namespaces) i n }
+
+abbrev pub withProcesses : State → List Process → State
+withProcesses s ps = record { processes = ps; namespaces = s .namespaces }
+
+abbrev pub withNamespaces : State → List Namespace → State
+withNamespaces s ns = record { processes = s .processes; namespaces = ns }
+
+-- ---- document 01: the fresh start
+abbrev pub allZero : Ids
+allZero = record { real = 0; effective = 0; saved = 0 }
+
+-- process 1 in namespace 0, all IDs 0, no supplementary groups, both sets full
+abbrev pub firstProcess : Process
+firstProcess = record {
+  live = true;
+  namespace = 0;
+  users = allZero;
+  groups = allZero;
+  supplementary = record { count = 0; ids = replicate 16 0 };
+  permitted = record { bits = fullSet };
+  effective = record { bits = fullSet };
+}
+
+-- namespace 0 has the fixed line 0 0 4294967295 in both maps
+abbrev pub fixedMap : IdMap
+fixedMap = record { state = Written 1; lines = record { inside = 0; parent = 0; count = noId } ∷ replicate 4 noLine }
+
+abbrev pub rootNamespace : Namespace
+rootNamespace = record { live = true; parent = 0; level = 0; owner = 0; users = fixedMap; groups = fixedMap; deny = false }
+
+unfoldable pub initialTables : State
+initialTables = record { processes = set (replicate 128 freeProcess) 0 firstProcess; namespaces = set (replicate 64 freeNamespace) 0 rootNamespace }

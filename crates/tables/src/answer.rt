@@ -1,0 +1,21 @@
+// What a call answers: document 01's answers, and its refusals under Linux' names.
+pub enum Errno {
+    EPERM,
+    ESRCH,
+    EAGAIN,
+    EINVAL,
+    ENOSPC,
+    ERANGE,
+    EUSERS,
+}
+
+pub enum Answer {
+    Refused(Errno),
+    Done,
+    Child(u64),
+    ChildIn(u64, u64),
+    NewNamespace(u64),
+    Yes,
+    No,
+    Length(usize),
+}

@@ -1,0 +1,98 @@
+// The tables as they are at the start.
+ghost use mathlib.Core.Path.{_≡_};
+ghost use Rattle.tables.specs.Tables.{tablesOf, firstProcess, rootNamespace, initialTables, withProcesses, withNamespaces};
+use crate::Tables;
+use crate::namespaces::namespace_put;
+use crate::processes::process_put;
+use capability::CapabilitySet;
+use idmap::Line;
+use records::GroupList;
+use records::IdMap;
+use records::Ids;
+use records::MapState;
+use records::Namespace;
+use records::Process;
+use records::namespaces::free_namespace;
+use records::processes::free_process;
+
+fn first_process() -> Process
+    ensures { λ r. ⌜ r ≡ firstProcess ⌝ }
+{
+    let none = Ids {
+        real: 0,
+        effective: 0,
+        saved: 0,
+    };
+    Process {
+        live: true,
+        namespace: 0,
+        users: none,
+        groups: none,
+        supplementary: GroupList {
+            count: 0,
+            ids: [0; 16],
+        },
+        permitted: CapabilitySet::FULL,
+        effective: CapabilitySet::FULL,
+    }
+}
+
+fn root_namespace() -> Namespace
+    ensures { λ r. ⌜ r ≡ rootNamespace ⌝ }
+{
+    let fixed = Line {
+        inside: 0,
+        parent: 0,
+        count: 4294967295,
+    };
+    let none = Line {
+        inside: 0,
+        parent: 0,
+        count: 0,
+    };
+    let map = IdMap {
+        state: MapState::Written(1),
+        lines: [fixed, none, none, none, none],
+    };
+    Namespace {
+        live: true,
+        parent: 0,
+        level: 0,
+        owner: 0,
+        users: map,
+        groups: map,
+        deny: false,
+    }
+}
+
+// All places free but the first.
+fn fill_processes(t: &mut Tables)
+    ensures { λ r. ⌜ tablesOf (now (t .exit)) ≡ withProcesses (tablesOf (now (t .entry))) (initialTables .processes) ⌝ }
+{
+    let free = free_process();
+    let mut places = [free; 128];
+    places[0] = first_process();
+    for i in 0..128usize {
+        let p = places[i];
+        process_put(t, i, p);
+    }
+}
+
+// No namespace but the initial one.
+fn fill_namespaces(t: &mut Tables)
+    ensures { λ r. ⌜ tablesOf (now (t .exit)) ≡ withNamespaces (tablesOf (now (t .entry))) (initialTables .namespaces) ⌝ }
+{
+    let free = free_namespace();
+    for i in 0..64usize {
+        namespace_put(t, i, free);
+    }
+    namespace_put(t, 0, root_namespace());
+}
+
+// The initial tables, whatever stood in the array.
+pub fn initial(t: &mut Tables)
+    ensures { λ r. ⌜ tablesOf (now (t .exit)) ≡ initialTables ⌝ }
+{
+    fill_processes(t);
+    fill_namespaces(t);
+}

@@ -1,0 +1,10 @@
+// The tables of processes and namespaces, in one array of words that the caller lends: loads and stores of records, the initial tables, and
+// who is where. Nothing above this crate knows the layout.
+pub mod answer;
+pub mod find;
+pub mod initial;
+pub mod namespaces;
+pub mod processes;
+
+// 128 rows of 27 words for processes, then 64 rows of 39 words for namespaces.
+pub type Tables = [u64; 5952];

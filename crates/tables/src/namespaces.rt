@@ -1,0 +1,46 @@
+// The namespace table.
+ghost use mathlib.Core.Path.{_≡_};
+ghost use Rattle.idmap.specs.Line.{linesIn};
+ghost use Rattle.records.specs.Records.{mapIn, linesOf};
+ghost use Rattle.tables.specs.Tables.{tablesOf, namespaceAt, putNamespace};
+use crate::Tables;
+use records::Kind;
+use records::Namespace;
+use records::namespaces::free_namespace;
+use records::namespaces::lines_of;
+use records::namespaces::namespace_of;
+use records::namespaces::namespace_words;
+
+// The namespace in a place of the table. A place past the end has none.
+pub fn namespace_at(t: &Tables, place: usize) -> Namespace
+    ensures { λ r. ⌜ r ≡ namespaceAt (tablesOf (now (t .entry))) place ⌝ }
+{
+    if place < 64 {
+        namespace_of(rows::get(t, 3456 + place * 39, 39))
+    } else {
+        free_namespace()
+    }
+}
+
+// Stores a namespace in a place of the table. A place past the end takes nothing.
+pub fn namespace_put(t: &mut Tables, place: usize, n: Namespace)
+    ensures { λ r. ⌜ tablesOf (now (t .exit)) ≡ putNamespace (tablesOf (now (t .entry))) place n ⌝ }
+{
+    if place < 64 {
+        let row = namespace_words(n);
+        rows::put(t, 3456 + place * 39, &row);
+    }
+}
+
+// The written lines of a namespace's map of a kind, as the words that hold them where they stand.
+pub fn map_lines(t: &Tables, place: usize, kind: Kind) -> &[u64]
+    ensures { λ r. ⌜ linesIn (now r) ≡ linesOf (mapIn kind (namespaceAt (tablesOf (now (t .entry))) place)) ⌝ }
+{
+    if 64 <= place {
+        return rows::get(t, 0, 0);
+    }
+    match kind {
+        Kind::User => lines_of(rows::get(t, 3460 + place * 39, 17)),
+        Kind::Group => lines_of(rows::get(t, 3477 + place * 39, 17)),
+    }
+}
