@@ -112,6 +112,15 @@ abbrev pub mapIn : Kind → Namespace → IdMap
 mapIn User n = n .users
 mapIn Group n = n .groups
 
+-- document 01: SETUID is 7, SETGID 6
+abbrev pub setIdOf : Kind → ℕ
+setIdOf User = 7
+setIdOf Group = 6
+
+abbrev pub isWritten : MapState → Bool
+isWritten Unwritten = false
+isWritten (Written n) = true
+
 -- the lines of a map: none until it is written
 abbrev pub linesIf : MapState → List Line → List Line
 linesIf Unwritten ls = []

@@ -2,3 +2,4 @@ pub mod Tables
 pub mod Finding
 pub mod Filling
 pub mod Lines
+pub mod Promises

@@ -18,4 +18,6 @@ pub enum Answer {
     Yes,
     No,
     Length(usize),
+    // The process's own IDs, which stand beside the answer.
+    Own,
 }

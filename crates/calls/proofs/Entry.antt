@@ -1,0 +1,130 @@
+-- The entry point: each call's promise is the step's. Assumes nothing.
+use mathlib.Core.Path.{_≡_, refl, sym, ap, _∙_}
+use mathlib.Core.Bool.{true, false}
+use mathlib.Core.List.{List}
+use Prim.Native.Nat.{ℕ}
+use borrow.Author.Needs.{needs}
+use Rattle.records.specs.declared.Kind.{Kind}
+use Rattle.records.specs.declared.Ids.{Ids}
+use Rattle.tables.specs.declared.answer.Answer.{Answer}
+use Rattle.tables.specs.declared.answer.Answer.the-variants.{Refused, Done, Child, ChildIn, NewNamespace, Yes, No, Length, Own}
+use Rattle.tables.specs.Tables.{State, tablesOf}
+use Rattle.tables.specs.Reply.{Reply, replyOf, Outcome, isRefused, Promise}
+use Rattle.process.specs.Calls.{forkOf, cloneOf, unshareOf, setnsOf}
+use Rattle.mapping.specs.Calls.{ReadOutcome, writeMapOf, writeSetgroupsOf, readMapOf, readSetgroupsOf}
+use Rattle.credentials.specs.declared.own.OwnIds.{OwnIds}
+use Rattle.credentials.specs.Calls.{setIdsOf, setGroupsOf, capableReply, dropOf, ownIdsOf}
+use Rattle.calls.specs.declared.Call.{Call}
+use Rattle.calls.specs.declared.Call.the-variants.{Fork, Clone, Unshare, Setns, WriteMap, WriteSetgroups, ReadMap, ReadSetgroups, SetIds, SetGroups, Capable, Drop, OwnIdsOf}
+use Rattle.calls.specs.Calls.{Step, callReply, plainOf, stored, asked, readBy, answerBy, CallPromise}
+
+-- ---- an answer with nothing beside it
+plain-reply : (a : Answer) → callReply (plainOf a) ≡ replyOf a
+plain-reply (Refused e) = refl
+plain-reply Done = refl
+plain-reply (Child p) = refl
+plain-reply (ChildIn p n) = refl
+plain-reply (NewNamespace n) = refl
+plain-reply Yes = refl
+plain-reply No = refl
+plain-reply (Length n) = refl
+plain-reply Own = refl
+
+module _ (r : OwnIds) (a : Answer) (e : r ≡ plainOf a) (l : List ℕ) where
+  reply-is : callReply r ≡ replyOf a
+  reply-is = ap callReply e ∙ plain-reply a
+
+  -- a call that may store
+  stores : (l′ b : List ℕ) (o : Outcome) (step : Step) → Promise a l l′ o → step ≡ stored o b → CallPromise (callReply r) l l′ b step
+  stores l′ b o step p q =
+      record {
+        outcome = (λ i. record { reply = (reply-is ∙ ap (λ (x : Outcome). x .reply) (p .outcome)) i; tables = p .outcome i .tables; buffer = b }) ∙ sym q;
+        kept = λ t. p .kept (sym (ap isRefused reply-is) ∙ t);
+      }
+
+  -- a read
+  reads : (b′ : List ℕ) (o : ReadOutcome) (step : Step) → _≡_ {A = ReadOutcome} (record { reply = replyOf a; buffer = b′ }) o → step ≡ readBy (tablesOf l) o → CallPromise (callReply r) l l b′ step
+  reads b′ o step p q =
+      record {
+        outcome = (λ i. record { reply = (reply-is ∙ ap (λ (x : ReadOutcome). x .reply) p) i; tables = tablesOf l; buffer = p i .buffer }) ∙ sym q;
+        kept = λ t. refl;
+      }
+
+  -- a question
+  asks : (b : List ℕ) (o : Reply) (step : Step) → replyOf a ≡ o → step ≡ asked (tablesOf l) o b → CallPromise (callReply r) l l b step
+  asks b o step p q =
+      record {
+        outcome = (λ i. record { reply = (reply-is ∙ p) i; tables = tablesOf l; buffer = b }) ∙ sym q;
+        kept = λ t. refl;
+      }
+
+-- ---- each call
+module _ (c : Call) (l text list b : List ℕ) (r : OwnIds) where
+  pub fork-step : (a : Answer) (l′ : List ℕ) (p : ℕ) → c ≡ Fork p → Promise a l l′ (forkOf (tablesOf l) p) → r ≡ plainOf a → CallPromise (callReply r) l l′ b (answerBy (tablesOf l) c text list b)
+  unfolding answerBy
+  fork-step a l′ p e h q = stores r a q l l′ b (forkOf (tablesOf l) p) (answerBy (tablesOf l) c text list b) h (rw e)
+
+  pub clone-step : (a : Answer) (l′ : List ℕ) (p : ℕ) → c ≡ Clone p → Promise a l l′ (cloneOf (tablesOf l) p) → r ≡ plainOf a → CallPromise (callReply r) l l′ b (answerBy (tablesOf l) c text list b)
+  unfolding answerBy
+  clone-step a l′ p e h q = stores r a q l l′ b (cloneOf (tablesOf l) p) (answerBy (tablesOf l) c text list b) h (rw e)
+
+  pub unshare-step : (a : Answer) (l′ : List ℕ) (p : ℕ) → c ≡ Unshare p → Promise a l l′ (unshareOf (tablesOf l) p) → r ≡ plainOf a → CallPromise (callReply r) l l′ b (answerBy (tablesOf l) c text list b)
+  unfolding answerBy
+  unshare-step a l′ p e h q = stores r a q l l′ b (unshareOf (tablesOf l) p) (answerBy (tablesOf l) c text list b) h (rw e)
+
+  pub setns-step : (a : Answer) (l′ : List ℕ) (p n : ℕ) → c ≡ Setns p n → Promise a l l′ (setnsOf (tablesOf l) p n) → r ≡ plainOf a → CallPromise (callReply r) l l′ b (answerBy (tablesOf l) c text list b)
+  unfolding answerBy
+  setns-step a l′ p n e h q = stores r a q l l′ b (setnsOf (tablesOf l) p n) (answerBy (tablesOf l) c text list b) h (rw e)
+
+  pub write-map-step : (a : Answer) (l′ : List ℕ) (k : Kind) (p n : ℕ) → c ≡ WriteMap k p n → Promise a l l′ (writeMapOf (tablesOf l) k p n text) → r ≡ plainOf a → CallPromise (callReply r) l l′ b (answerBy (tablesOf l) c text list b)
+  unfolding answerBy
+  write-map-step a l′ k p n e h q = stores r a q l l′ b (writeMapOf (tablesOf l) k p n text) (answerBy (tablesOf l) c text list b) h (rw e)
+
+  pub write-setgroups-step : (a : Answer) (l′ : List ℕ) (p n : ℕ) → c ≡ WriteSetgroups p n → Promise a l l′ (writeSetgroupsOf (tablesOf l) p n text) → r ≡ plainOf a → CallPromise (callReply r) l l′ b (answerBy (tablesOf l) c text list b)
+  unfolding answerBy
+  write-setgroups-step a l′ p n e h q = stores r a q l l′ b (writeSetgroupsOf (tablesOf l) p n text) (answerBy (tablesOf l) c text list b) h (rw e)
+
+  pub set-ids-step : (a : Answer) (l′ : List ℕ) (k : Kind) (p : ℕ) (i : Ids) → c ≡ SetIds k p i → Promise a l l′ (setIdsOf (tablesOf l) k p (i .real) (i .effective) (i .saved)) → r ≡ plainOf a → CallPromise (callReply r) l l′ b (answerBy (tablesOf l) c text list b)
+  unfolding answerBy
+  set-ids-step a l′ k p i e h q = stores r a q l l′ b (setIdsOf (tablesOf l) k p (i .real) (i .effective) (i .saved)) (answerBy (tablesOf l) c text list b) h (rw e)
+
+  pub set-groups-step : (a : Answer) (l′ : List ℕ) (p : ℕ) → c ≡ SetGroups p → Promise a l l′ (setGroupsOf (tablesOf l) p list) → r ≡ plainOf a → CallPromise (callReply r) l l′ b (answerBy (tablesOf l) c text list b)
+  unfolding answerBy
+  set-groups-step a l′ p e h q = stores r a q l l′ b (setGroupsOf (tablesOf l) p list) (answerBy (tablesOf l) c text list b) h (rw e)
+
+  pub drop-step : (a : Answer) (l′ : List ℕ) (p x y : ℕ) → c ≡ Drop p x y → Promise a l l′ (dropOf (tablesOf l) p x y) → r ≡ plainOf a → CallPromise (callReply r) l l′ b (answerBy (tablesOf l) c text list b)
+  unfolding answerBy
+  drop-step a l′ p x y e h q = stores r a q l l′ b (dropOf (tablesOf l) p x y) (answerBy (tablesOf l) c text list b) h (rw e)
+
+  pub read-map-step : (a : Answer) (b′ : List ℕ) (k : Kind) (p n : ℕ) → c ≡ ReadMap k p n → _≡_ {A = ReadOutcome} (record { reply = replyOf a; buffer = b′ }) (readMapOf (tablesOf l) k p n b) → r ≡ plainOf a → CallPromise (callReply r) l l b′ (answerBy (tablesOf l) c text list b)
+  unfolding answerBy
+  read-map-step a b′ k p n e h q = reads r a q l b′ (readMapOf (tablesOf l) k p n b) (answerBy (tablesOf l) c text list b) h (rw e)
+
+  pub read-setgroups-step : (a : Answer) (b′ : List ℕ) (p n : ℕ) → c ≡ ReadSetgroups p n → _≡_ {A = ReadOutcome} (record { reply = replyOf a; buffer = b′ }) (readSetgroupsOf (tablesOf l) p n b) → r ≡ plainOf a → CallPromise (callReply r) l l b′ (answerBy (tablesOf l) c text list b)
+  unfolding answerBy
+  read-setgroups-step a b′ p n e h q = reads r a q l b′ (readSetgroupsOf (tablesOf l) p n b) (answerBy (tablesOf l) c text list b) h (rw e)
+
+  pub capable-step : (a : Answer) (p n number : ℕ) → c ≡ Capable p n number → replyOf a ≡ capableReply (tablesOf l) p n number → r ≡ plainOf a → CallPromise (callReply r) l l b (answerBy (tablesOf l) c text list b)
+  unfolding answerBy
+  capable-step a p n number e q w = asks r a w l b (capableReply (tablesOf l) p n number) (answerBy (tablesOf l) c text list b) q (rw e)
+
+  pub own-ids-step : (p : ℕ) → c ≡ OwnIdsOf p → r ≡ ownIdsOf (tablesOf l) p → CallPromise (callReply r) l l b (answerBy (tablesOf l) c text list b)
+  unfolding answerBy
+  own-ids-step p e q = record { outcome = rw (e, q); kept = λ t. refl }
+
+pub ruleset entry = (
+  fork-step,
+  clone-step,
+  unshare-step,
+  setns-step,
+  write-map-step,
+  write-setgroups-step,
+  set-ids-step,
+  set-groups-step,
+  drop-step,
+  read-map-step,
+  read-setgroups-step,
+  capable-step,
+  own-ids-step,
+  needs,
+)

@@ -1,0 +1,87 @@
+-- Every call of document 01 with all that is lent to it, and what it answers. Assumes nothing.
+use Prim.Native.Nat.{ℕ}
+use mathlib.Core.Path.{_≡_}
+use mathlib.Core.Bool.{Bool, true}
+use mathlib.Core.List.{List, [], _∷_, _++_}
+use lib.ListN.{take, replicate}
+use Rattle.records.specs.declared.Ids.{Ids}
+use Rattle.records.specs.declared.GroupList.{GroupList}
+use Rattle.tables.specs.declared.answer.Answer.{Answer}
+use Rattle.tables.specs.declared.answer.Answer.the-variants.{Refused, Done, Child, ChildIn, NewNamespace, Yes, No, Length, Own}
+use Rattle.tables.specs.Tables.{State, tablesOf}
+use Rattle.tables.specs.Reply.{Reply, ids, replyOf, Outcome, isRefused}
+use Rattle.process.specs.Calls.{forkOf, cloneOf, unshareOf, setnsOf}
+use Rattle.mapping.specs.Calls.{ReadOutcome, writeMapOf, writeSetgroupsOf, readMapOf, readSetgroupsOf}
+use Rattle.credentials.specs.declared.own.OwnIds.{OwnIds}
+use Rattle.credentials.specs.Calls.{setIdsOf, setGroupsOf, capableReply, dropOf, noIds, ownIdsOf}
+use Rattle.calls.specs.declared.Call.{Call}
+use Rattle.calls.specs.declared.Call.the-variants.{Fork, Clone, Unshare, Setns, WriteMap, WriteSetgroups, ReadMap, ReadSetgroups, SetIds, SetGroups, Capable, Drop, OwnIdsOf}
+
+-- a call with all that is lent beside it: a text, a list of groups and a buffer
+pub record Request : Type 0 where
+  pub call : Call
+  pub text : List ℕ
+  pub list : List ℕ
+  pub buffer : List ℕ
+
+-- what a call answers, and the tables and the buffer that it leaves
+pub record Step : Type 0 where
+  pub reply : Reply
+  pub tables : State
+  pub buffer : List ℕ
+
+-- the IDs of an answer: real, effective and saved user ID, the same of the group, then the groups in order
+abbrev pub idsList : Ids → Ids → GroupList → List ℕ
+idsList u g s = u .real ∷ u .effective ∷ u .saved ∷ g .real ∷ g .effective ∷ g .saved ∷ take (s .count) (s .ids)
+
+-- the answer with the IDs that may stand beside it
+abbrev pub replyBeside : Answer → Ids → Ids → GroupList → Reply
+replyBeside (Refused e) u g s = replyOf (Refused e)
+replyBeside Done u g s = replyOf Done
+replyBeside (Child p) u g s = replyOf (Child p)
+replyBeside (ChildIn p n) u g s = replyOf (ChildIn p n)
+replyBeside (NewNamespace n) u g s = replyOf (NewNamespace n)
+replyBeside Yes u g s = replyOf Yes
+replyBeside No u g s = replyOf No
+replyBeside (Length n) u g s = replyOf (Length n)
+replyBeside Own u g s = ids (idsList u g s)
+
+abbrev pub callReply : OwnIds → Reply
+callReply r = replyBeside (r .answer) (r .users) (r .groups) (r .supplementary)
+
+-- an answer that has no IDs beside it
+abbrev pub plainOf : Answer → OwnIds
+plainOf a = record { answer = a; users = noIds; groups = noIds; supplementary = record { count = 0; ids = replicate 16 0 } }
+
+-- ---- the one definition that a list of calls folds
+abbrev pub stored : Outcome → List ℕ → Step
+stored o buffer = record { reply = o .reply; tables = o .tables; buffer = buffer }
+
+abbrev pub asked : State → Reply → List ℕ → Step
+asked s r buffer = record { reply = r; tables = s; buffer = buffer }
+
+abbrev pub readBy : State → ReadOutcome → Step
+readBy s o = record { reply = o .reply; tables = s; buffer = o .buffer }
+
+unfoldable pub answerBy : State → Call → List ℕ → List ℕ → List ℕ → Step
+answerBy s (Fork c) text list buffer = stored (forkOf s c) buffer
+answerBy s (Clone c) text list buffer = stored (cloneOf s c) buffer
+answerBy s (Unshare c) text list buffer = stored (unshareOf s c) buffer
+answerBy s (Setns c n) text list buffer = stored (setnsOf s c n) buffer
+answerBy s (WriteMap k c p) text list buffer = stored (writeMapOf s k c p text) buffer
+answerBy s (WriteSetgroups c p) text list buffer = stored (writeSetgroupsOf s c p text) buffer
+answerBy s (ReadMap k c p) text list buffer = readBy s (readMapOf s k c p buffer)
+answerBy s (ReadSetgroups c p) text list buffer = readBy s (readSetgroupsOf s c p buffer)
+answerBy s (SetIds k c i) text list buffer = stored (setIdsOf s k c (i .real) (i .effective) (i .saved)) buffer
+answerBy s (SetGroups c) text list buffer = stored (setGroupsOf s c list) buffer
+answerBy s (Capable c n number) text list buffer = asked s (capableReply s c n number) buffer
+answerBy s (Drop c p e) text list buffer = stored (dropOf s c p e) buffer
+answerBy s (OwnIdsOf c) text list buffer = asked s (callReply (ownIdsOf s c)) buffer
+
+abbrev pub answerOf : State → Request → Step
+answerOf s r = answerBy s (r .call) (r .text) (r .list) (r .buffer)
+
+-- what the entry point promises: its answer, the tables and the buffer are the step's, and a refusal leaves every word of the lent array as it was
+pub record CallPromise (r : Reply) (entry exit after : List ℕ) (step : Step) : Type 0 where
+  pub outcome : _≡_ {A = Step} (record { reply = r; tables = tablesOf exit; buffer = after }) step
+  pub kept : isRefused r ≡ true → exit ≡ entry

@@ -1,0 +1,4 @@
+pub mod IdChanges
+pub mod GroupLists
+pub mod OwnIds
+pub mod Capability

@@ -1,0 +1,196 @@
+-- ID changes, setgroups, own IDs, the capability question and drop: document 01, 'The calls, and the order in which each refuses'.
+-- Assumes nothing.
+use Prim.Native.Nat.{ℕ, _-_}
+use mathlib.Core.Bool.{Bool, true, false, cond, not, _&&_, _||_}
+use mathlib.Core.List.{List, [], _∷_, _++_, map}
+use mathlib.Core.Option.{Option, none, some}
+use lib.Dec.{eqb, ltb}
+use lib.ListN.{length, take, replicate}
+use Rattle.capability.specs.Sets.{emptySet, isWithin}
+use Rattle.idmap.specs.declared.Translated.{Translated}
+use Rattle.idmap.specs.declared.Translated.the-variants.{Id, Unmapped}
+use Rattle.idmap.specs.Good.{noId}
+use Rattle.idmap.specs.Text.{allOf}
+use Rattle.records.specs.declared.Kind.{Kind}
+use Rattle.records.specs.declared.Kind.the-variants.{User, Group}
+use Rattle.records.specs.declared.Ids.{Ids}
+use Rattle.records.specs.declared.GroupList.{GroupList}
+use Rattle.records.specs.declared.Process.{Process}
+use Rattle.records.specs.Records.{idsIn, setIdOf, isWritten}
+use Rattle.tables.specs.Tables.{State, processAt, namespaceAt, putProcess}
+use Rattle.tables.specs.Find.{processNamed, namespaceNamed}
+use Rattle.tables.specs.Reply.{Reply, refused, done, yes′, no′, Outcome, refuse, onFound, when, unless}
+use Rattle.tables.specs.declared.answer.Errno.the-variants.{ESRCH}
+use Rattle.tables.specs.declared.answer.Answer.the-variants.{Refused, Own}
+use Rattle.hierarchy.specs.Walks.{toKernel, fromKernel, capableIn}
+use Rattle.credentials.specs.declared.own.OwnIds.{OwnIds}
+use Rattle.credentials.specs.declared.groups.Listed.{Listed}
+
+-- ---- set real, effective, saved IDs of a kind
+-- what is given for one of the three: 4,294,967,295 leaves it as it is, another ID is translated out
+abbrev pub chosen : State → Kind → ℕ → ℕ → ℕ → Translated
+chosen s kind n x old = cond (eqb x noId) (Id old) (toKernel s kind n x)
+
+-- what follows three kernel IDs, or other where one is not to be had
+abbrev pub thenThree : {A : Type 0} → Translated → Translated → Translated → A → (ℕ → ℕ → ℕ → A) → A
+thenThree (Id a) (Id b) (Id c) other next = next a b c
+thenThree (Id a) (Id b) Unmapped other next = other
+thenThree (Id a) Unmapped c other next = other
+thenThree Unmapped b c other next = other
+
+-- an ID is one of three
+abbrev pub isOneOf : ℕ → Ids → Bool
+isOneOf x i = eqb x (i .real) || (eqb x (i .effective) || eqb x (i .saved))
+
+unfoldable pub allOneOf : Ids → Ids → Bool
+allOneOf new old = isOneOf (new .real) old && (isOneOf (new .effective) old && isOneOf (new .saved) old)
+
+-- the sets after a change of user IDs, where zero is the namespace's ID 0: if one of the three was it and none is now, both sets are emptied;
+-- if the effective ID was it and is not now, the effective set is emptied
+abbrev pub losesAll : Translated → Ids → Ids → Bool
+losesAll Unmapped old new = false
+losesAll (Id z) old new = isOneOf z old && not (isOneOf z new)
+
+abbrev pub losesEffective : Translated → Ids → Ids → Bool
+losesEffective Unmapped old new = false
+losesEffective (Id z) old new = eqb z (old .effective) && not (eqb z (new .effective))
+
+-- process p with new user IDs and the sets that this leaves it
+unfoldable pub withUsers : Translated → Process → Ids → Process
+withUsers zero p new = record {
+  live = p .live;
+  namespace = p .namespace;
+  users = new;
+  groups = p .groups;
+  supplementary = p .supplementary;
+  permitted = cond (losesAll zero (p .users) new) (record { bits = emptySet }) (p .permitted);
+  effective = cond (losesAll zero (p .users) new || losesEffective zero (p .users) new) (record { bits = emptySet }) (p .effective);
+}
+
+unfoldable pub withGroups : Process → Ids → Process
+withGroups p new = record {
+  live = p .live;
+  namespace = p .namespace;
+  users = p .users;
+  groups = new;
+  supplementary = p .supplementary;
+  permitted = p .permitted;
+  effective = p .effective;
+}
+
+abbrev pub withIds : State → Kind → Process → Ids → Process
+withIds s User p new = withUsers (toKernel s User (p .namespace) 0) p new
+withIds s Group p new = withGroups p new
+
+-- with the capability in its own namespace any three; else each one of the present three
+unfoldable pub mayTake : State → Kind → Process → Ids → Ids → Bool
+mayTake s kind p new old = capableIn s p (p .namespace) (setIdOf kind) || allOneOf new old
+
+unfoldable pub setIdsOf : State → Kind → ℕ → ℕ → ℕ → ℕ → Outcome
+setIdsOf s kind c real effective saved =
+    onFound (processNamed s c) (refuse s 3) (λ i.
+    thenThree
+    (chosen s kind (processAt s i .namespace) real (idsIn kind (processAt s i) .real))
+    (chosen s kind (processAt s i .namespace) effective (idsIn kind (processAt s i) .effective))
+    (chosen s kind (processAt s i .namespace) saved (idsIn kind (processAt s i) .saved))
+    (refuse s 22) (λ a b d.
+    unless (mayTake s kind (processAt s i) (record { real = a; effective = b; saved = d }) (idsIn kind (processAt s i)))
+    (refuse s 1)
+    (record { reply = done; tables = putProcess s i (withIds s kind (processAt s i) (record { real = a; effective = b; saved = d })) })))
+
+-- ---- setgroups
+abbrev pub toOption : Translated → Option ℕ
+toOption (Id x) = some x
+toOption Unmapped = none
+
+-- groups in a list of at most 16
+unfoldable pub groupList : List ℕ → GroupList
+groupList ids = record { count = length ids; ids = ids ++ replicate (16 - length ids) 0 }
+
+unfoldable pub withList : Process → GroupList → Process
+withList p new = record {
+  live = p .live;
+  namespace = p .namespace;
+  users = p .users;
+  groups = p .groups;
+  supplementary = new;
+  permitted = p .permitted;
+  effective = p .effective;
+}
+
+abbrev pub thenList : {A : Type 0} → Option (List ℕ) → A → (List ℕ → A) → A
+thenList none other next = other
+thenList (some ids) other next = next ids
+
+-- the kernel IDs of groups given in a namespace, or none where one is not mapped
+unfoldable pub kernelGroups : State → ℕ → List ℕ → Option (List ℕ)
+kernelGroups s n list = allOf (λ (x : ℕ). toOption (toKernel s Group n x)) list
+
+abbrev pub listedOf : Option (List ℕ) → Listed
+listedOf none = record { mapped = false; groups = groupList [] }
+listedOf (some ids) = record { mapped = true; groups = groupList ids }
+
+-- the new list replaces the old, in the order given, repeats kept
+unfoldable pub setGroupsOf : State → ℕ → List ℕ → Outcome
+setGroupsOf s c list =
+    onFound (processNamed s c) (refuse s 3) (λ i.
+    unless (capableIn s (processAt s i) (processAt s i .namespace) 6) (refuse s 1)
+    (unless (isWritten (namespaceAt s (processAt s i .namespace) .groups .state)) (refuse s 1)
+    (when (namespaceAt s (processAt s i .namespace) .deny) (refuse s 1)
+    (when (ltb 16 (length list)) (refuse s 22)
+    (thenList (kernelGroups s (processAt s i .namespace) list) (refuse s 22) (λ ids.
+    record { reply = done; tables = putProcess s i (withList (processAt s i) (groupList ids)) }))))))
+
+-- ---- the capability question
+unfoldable pub capableReply : State → ℕ → ℕ → ℕ → Reply
+capableReply s c name number =
+    onFound (processNamed s c) (refused 3) (λ i.
+    onFound (namespaceNamed s name) (refused 3) (λ n.
+    when (ltb 36 number) (refused 22) (cond (capableIn s (processAt s i) n number) yes′ no′)))
+
+-- ---- drop: it never adds a capability to the permitted set; the new effective set is any part of the new permitted
+unfoldable pub withSets : Process → ℕ → ℕ → Process
+withSets p permitted effective = record {
+  live = p .live;
+  namespace = p .namespace;
+  users = p .users;
+  groups = p .groups;
+  supplementary = p .supplementary;
+  permitted = record { bits = permitted };
+  effective = record { bits = effective };
+}
+
+unfoldable pub dropOf : State → ℕ → ℕ → ℕ → Outcome
+dropOf s c permitted effective =
+    onFound (processNamed s c) (refuse s 3) (λ i.
+    unless (isWithin permitted (processAt s i .permitted .bits)) (refuse s 1)
+    (unless (isWithin effective permitted) (refuse s 1)
+    (record { reply = done; tables = putProcess s i (withSets (processAt s i) permitted effective) })))
+
+-- ---- own IDs, as seen in the process's namespace; an untranslatable one shows as 65534
+abbrev pub shownAs : Translated → ℕ
+shownAs (Id x) = x
+shownAs Unmapped = 65534
+
+abbrev pub seen : State → Kind → ℕ → ℕ → ℕ
+seen s kind n x = shownAs (fromKernel s kind n x)
+
+abbrev pub seenIds : State → Kind → ℕ → Ids → Ids
+seenIds s kind n i = record { real = seen s kind n (i .real); effective = seen s kind n (i .effective); saved = seen s kind n (i .saved) }
+
+abbrev pub noIds : Ids
+noIds = record { real = 0; effective = 0; saved = 0 }
+
+-- the groups in order: the first of the list, as many as it has
+unfoldable pub seenGroups : State → ℕ → GroupList → GroupList
+seenGroups s n g = groupList (map (seen s Group n) (take (g .count) (g .ids)))
+
+unfoldable pub ownIdsOf : State → ℕ → OwnIds
+ownIdsOf s c =
+    onFound (processNamed s c) (record { answer = Refused ESRCH; users = noIds; groups = noIds; supplementary = groupList [] }) (λ i.
+    record {
+      answer = Own;
+      users = seenIds s User (processAt s i .namespace) (processAt s i .users);
+      groups = seenIds s Group (processAt s i .namespace) (processAt s i .groups);
+      supplementary = seenGroups s (processAt s i .namespace) (processAt s i .supplementary);
+    })

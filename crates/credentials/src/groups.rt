@@ -1,0 +1,117 @@
+// Setgroups.
+ghost use mathlib.Core.Path.{_≡_};
+ghost use mathlib.Core.Option.{none};
+ghost use Prim.Native.Nat.{_≤_};
+ghost use lib.ListN.{length};
+ghost use Rattle.tables.specs.Tables.{tablesOf};
+ghost use Rattle.tables.specs.Reply.{Promise};
+ghost use Rattle.credentials.specs.Calls.{withList, kernelGroups, listedOf, setGroupsOf};
+use hierarchy::capable::capable;
+use hierarchy::translate::to_kernel;
+use idmap::Translated;
+use records::GroupList;
+use records::Kind;
+use records::Process;
+use records::kinds::is_written;
+use tables::Tables;
+use tables::answer::Answer;
+use tables::answer::Errno;
+use tables::find::Found;
+use tables::find::find_process;
+use tables::namespaces::namespace_at;
+use tables::processes::process_at;
+use tables::processes::process_put;
+
+// Whether every group of a list is mapped, and the list as kernel IDs beside it.
+struct Listed {
+    mapped: bool,
+    groups: GroupList,
+}
+
+fn none_listed() -> Listed
+    ensures { λ r. ⌜ r ≡ listedOf none ⌝ }
+{
+    Listed {
+        mapped: false,
+        groups: GroupList {
+            count: 0,
+            ids: [0; 16],
+        },
+    }
+}
+
+// The kernel IDs of at most 16 groups, in order.
+fn kernel_groups(t: &Tables, namespace: u64, list: &[u32]) -> Listed
+    requires { ⌜ length (now list) ≤ 16 ⌝ }
+    ensures { λ r. ⌜ r ≡ listedOf (kernelGroups (tablesOf (now (t .entry))) «namespace» (now (list .entry))) ⌝ }
+{
+    let mut ids = [0u32; 16];
+    let mut i: usize = 0;
+    while i < list.len() {
+        let r = to_kernel(t, Kind::Group, namespace, list[i]);
+        let Translated::Id(x) = r else {
+            return none_listed();
+        };
+        ids[i] = x;
+        i += 1;
+    }
+    Listed {
+        mapped: true,
+        groups: GroupList {
+            count: i as u64,
+            ids: ids,
+        },
+    }
+}
+
+fn with_list(p: Process, list: GroupList) -> Process
+    ensures { λ r. ⌜ r ≡ withList p list ⌝ }
+{
+    let users = p.users;
+    let groups = p.groups;
+    let permitted = p.permitted;
+    let effective = p.effective;
+    Process {
+        live: p.live,
+        namespace: p.namespace,
+        users: users,
+        groups: groups,
+        supplementary: list,
+        permitted: permitted,
+        effective: effective,
+    }
+}
+
+// Replaces the caller's supplementary groups. Refuses: 3 no caller; 1 without SETGID in its own namespace, or where that has no group map
+// yet or denies setgroups; 22 over 16 groups, or where one is not mapped.
+pub fn setgroups(t: &mut Tables, caller: u64, list: &[u32]) -> Answer
+    ensures { λ r. ⌜ Promise r (now (t .entry)) (now (t .exit)) (setGroupsOf (tablesOf (now (t .entry))) caller (now (list .entry))) ⌝ }
+{
+    let Found::At(place) = find_process(t, caller) else {
+        return Answer::Refused(Errno::ESRCH);
+    };
+    let p = process_at(t, place);
+    if capable(t, p, p.namespace, 6) {} else {
+        return Answer::Refused(Errno::EPERM);
+    }
+    let own = namespace_at(t, p.namespace as usize);
+    let map = own.groups;
+    let state = map.state;
+    if is_written(state) {} else {
+        return Answer::Refused(Errno::EPERM);
+    }
+    if own.deny {
+        return Answer::Refused(Errno::EPERM);
+    }
+    if 16 < list.len() {
+        return Answer::Refused(Errno::EINVAL);
+    }
+    let listed = kernel_groups(t, p.namespace, list);
+    if listed.mapped {
+        let groups = listed.groups;
+        process_put(t, place, with_list(p, groups));
+        Answer::Done
+    } else {
+        Answer::Refused(Errno::EINVAL)
+    }
+}

@@ -1,0 +1,5 @@
+// The calls about a process's credentials: ID changes, setgroups, own IDs, the capability question and drop.
+pub mod capability_calls;
+pub mod groups;
+pub mod ids;
+pub mod own;

@@ -1,0 +1,106 @@
+// A process's own IDs, as seen in its namespace.
+ghost use mathlib.Core.Path.{_≡_};
+ghost use Rattle.tables.specs.Tables.{tablesOf};
+ghost use Rattle.credentials.specs.Calls.{seen, seenIds, seenGroups, ownIdsOf};
+use hierarchy::translate::from_kernel;
+use idmap::Translated;
+use records::GroupList;
+use records::Ids;
+use records::Kind;
+use tables::Tables;
+use tables::answer::Answer;
+use tables::answer::Errno;
+use tables::find::Found;
+use tables::find::find_process;
+use tables::processes::process_at;
+
+// The answer, and the IDs beside it; where it is a refusal they are 0.
+pub struct OwnIds {
+    pub answer: Answer,
+    pub users: Ids,
+    pub groups: Ids,
+    pub supplementary: GroupList,
+}
+
+// A kernel ID as a namespace sees it; 65534 where it is not mapped there.
+fn seen_id(t: &Tables, kind: Kind, namespace: u64, id: u32) -> u32
+    ensures { λ r. ⌜ r ≡ seen (tablesOf (now (t .entry))) kind «namespace» id ⌝ }
+{
+    let r = from_kernel(t, kind, namespace, id);
+    match r {
+        Translated::Id(x) => x,
+        Translated::Unmapped => 65534,
+    }
+}
+
+fn seen_ids(t: &Tables, kind: Kind, namespace: u64, ids: Ids) -> Ids
+    ensures { λ r. ⌜ r ≡ seenIds (tablesOf (now (t .entry))) kind «namespace» ids ⌝ }
+{
+    let real = seen_id(t, kind, namespace, ids.real);
+    let effective = seen_id(t, kind, namespace, ids.effective);
+    let saved = seen_id(t, kind, namespace, ids.saved);
+    Ids {
+        real: real,
+        effective: effective,
+        saved: saved,
+    }
+}
+
+// The supplementary groups in order.
+fn seen_groups(t: &Tables, namespace: u64, groups: GroupList) -> GroupList
+    ensures { λ r. ⌜ r ≡ seenGroups (tablesOf (now (t .entry))) «namespace» groups ⌝ }
+{
+    let kernel = groups.ids;
+    let listed = groups.count;
+    let mut ids = [0u32; 16];
+    let mut i: usize = 0;
+    while i < 16 {
+        if listed <= i as u64 {
+            return GroupList {
+                count: i as u64,
+                ids: ids,
+            };
+        }
+        ids[i] = seen_id(t, Kind::Group, namespace, kernel[i]);
+        i += 1;
+    }
+    GroupList {
+        count: 16,
+        ids: ids,
+    }
+}
+
+// The caller's own IDs. Refuses: 3 no caller.
+pub fn own_ids(t: &Tables, caller: u64) -> OwnIds
+    ensures { λ r. ⌜ r ≡ ownIdsOf (tablesOf (now (t .entry))) caller ⌝ }
+{
+    let Found::At(place) = find_process(t, caller) else {
+        let none = Ids {
+            real: 0,
+            effective: 0,
+            saved: 0,
+        };
+        return OwnIds {
+            answer: Answer::Refused(Errno::ESRCH),
+            users: none,
+            groups: none,
+            supplementary: GroupList {
+                count: 0,
+                ids: [0; 16],
+            },
+        };
+    };
+    let p = process_at(t, place);
+    let users = p.users;
+    let groups = p.groups;
+    let supplementary = p.supplementary;
+    let seen_users = seen_ids(t, Kind::User, p.namespace, users);
+    let seen_own = seen_ids(t, Kind::Group, p.namespace, groups);
+    let seen_list = seen_groups(t, p.namespace, supplementary);
+    OwnIds {
+        answer: Answer::Own,
+        users: seen_users,
+        groups: seen_own,
+        supplementary: seen_list,
+    }
+}

@@ -1,0 +1,64 @@
+-- Walks along the hierarchy of namespaces: document 01, 'Translation' and 'Who holds a capability'. Assumes nothing.
+use Prim.Native.Nat.{ℕ, zero, suc, min}
+use mathlib.Core.Bool.{Bool, true, false, cond, _&&_}
+use lib.Dec.{eqb}
+use Rattle.capability.specs.Sets.{holds}
+use Rattle.idmap.specs.declared.Translated.{Translated}
+use Rattle.idmap.specs.declared.Translated.the-variants.{Id, Unmapped}
+use Rattle.idmap.specs.Good.{noId}
+use Rattle.idmap.specs.Lookup.{out, back}
+use Rattle.records.specs.declared.Kind.{Kind}
+use Rattle.records.specs.declared.Process.{Process}
+use Rattle.records.specs.declared.Namespace.{Namespace}
+use Rattle.tables.specs.Tables.{State, namespaceAt}
+use Rattle.records.specs.Records.{mapIn, linesOf}
+
+-- how many steps lead from a namespace to the initial one: its level, which reaches 32 at most
+unfoldable pub heightOf : State → ℕ → ℕ
+heightOf s n = min (namespaceAt s n .level) 32
+
+-- in the initial namespace each ID but 'no ID' stands for itself
+abbrev pub itself : ℕ → Translated
+itself x = cond (eqb x noId) Unmapped (Id x)
+
+-- what follows an ID, or unmapped where there is none
+abbrev pub thenId : Translated → (ℕ → Translated) → Translated
+thenId (Id x) next = next x
+thenId Unmapped next = Unmapped
+
+-- document 01: going out, level by level, from namespace n to namespace 0, in k steps at most
+unfoldable pub outIn : State → Kind → ℕ → ℕ → ℕ → Translated
+outIn s kind zero n x = cond (eqb n 0) (itself x) Unmapped
+outIn s kind (suc k) n x =
+    cond (eqb n 0) (itself x) (thenId (out (linesOf (mapIn kind (namespaceAt s n))) x) (λ y. outIn s kind k (namespaceAt s n .parent) y))
+
+-- the kernel ID (document 01: station-wide ID) that an ID of namespace n stands for
+unfoldable pub toKernel : State → Kind → ℕ → ℕ → Translated
+toKernel s kind n x = outIn s kind (heightOf s n) n x
+
+-- document 01: coming back, from namespace 0 down to namespace n
+unfoldable pub backIn : State → Kind → ℕ → ℕ → ℕ → Translated
+backIn s kind zero n y = cond (eqb n 0) (itself y) Unmapped
+backIn s kind (suc k) n y =
+    cond (eqb n 0) (itself y) (thenId (backIn s kind k (namespaceAt s n .parent) y) (λ z. back (linesOf (mapIn kind (namespaceAt s n))) z))
+
+-- the ID of namespace n that stands for a kernel ID
+unfoldable pub fromKernel : State → Kind → ℕ → ℕ → Translated
+fromKernel s kind n y = backIn s kind (heightOf s n) n y
+
+-- ---- who holds a capability
+-- the second rule: the namespace's parent is the process's own, and its owner is the process's effective user
+unfoldable pub ownedBy : ℕ → ℕ → Namespace → Bool
+ownedBy own euid n = eqb (n .parent) own && eqb (n .owner) euid
+
+-- document 01: the walk goes up from the named namespace and stops at the first rule that decides. mine: the effective set has it
+unfoldable pub holdsIn : State → ℕ → ℕ → Bool → ℕ → ℕ → Bool
+holdsIn s own euid mine zero n = cond (eqb n own) mine (cond (eqb n 0) false (ownedBy own euid (namespaceAt s n)))
+holdsIn s own euid mine (suc k) n =
+    cond (eqb n own) mine
+    (cond (eqb n 0) false
+    (cond (ownedBy own euid (namespaceAt s n)) true (holdsIn s own euid mine k (namespaceAt s n .parent))))
+
+-- whether process p holds capability c in namespace n
+unfoldable pub capableIn : State → Process → ℕ → ℕ → Bool
+capableIn s p n c = holdsIn s (p .namespace) (p .users .effective) (holds (p .effective .bits) c) (heightOf s n) n

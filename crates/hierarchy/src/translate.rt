@@ -1,0 +1,80 @@
+// Translation of IDs between a namespace and the initial one.
+ghost use mathlib.Core.Path.{_≡_};
+ghost use Rattle.tables.specs.Tables.{tablesOf};
+ghost use Rattle.hierarchy.specs.Walks.{heightOf, itself, outIn, toKernel, backIn, fromKernel};
+use idmap::Translated;
+use idmap::lookup::lookup_back;
+use idmap::lookup::lookup_out;
+use records::Kind;
+use tables::Tables;
+use tables::namespaces::map_lines;
+use tables::namespaces::namespace_at;
+
+// How many steps lead from a namespace to the initial one, 32 at most.
+pub fn height(t: &Tables, place: u64) -> u64
+    ensures { λ r. ⌜ r ≡ heightOf (tablesOf (now (t .entry))) place ⌝ }
+{
+    let n = namespace_at(t, place as usize);
+    if n.level < 32 { n.level } else { 32 }
+}
+
+// In the initial namespace each ID but 'no ID' stands for itself.
+fn same(id: u32) -> Translated
+    ensures { λ r. ⌜ r ≡ itself id ⌝ }
+{
+    if id == 4294967295 {
+        Translated::Unmapped
+    } else {
+        Translated::Id(id)
+    }
+}
+
+// The kernel ID that an ID of a namespace stands for. Linux: make_kuid, make_kgid.
+pub fn to_kernel(t: &Tables, kind: Kind, place: u64, id: u32) -> Translated
+    ensures { λ r. ⌜ r ≡ toKernel (tablesOf (now (t .entry))) kind place id ⌝ }
+{
+    let mut left = height(t, place);
+    let mut at = place;
+    let mut x = id;
+    loop {
+        if at == 0 {
+            break same(x);
+        }
+        if left == 0 {
+            break Translated::Unmapped;
+        }
+        let found = lookup_out(map_lines(t, at as usize, kind), x);
+        let Translated::Id(y) = found else {
+            break Translated::Unmapped;
+        };
+        let n = namespace_at(t, at as usize);
+        x = y;
+        at = n.parent;
+        left -= 1;
+    }
+}
+
+// The ID of the namespace at `at`, `left` steps at most below the initial one, that stands for a kernel ID.
+fn down(t: &Tables, kind: Kind, left: u64, at: u64, id: u32) -> Translated
+    ensures { λ r. ⌜ r ≡ backIn (tablesOf (now (t .entry))) kind left at id ⌝ }
+{
+    if at == 0 {
+        return same(id);
+    }
+    if left == 0 {
+        return Translated::Unmapped;
+    }
+    let n = namespace_at(t, at as usize);
+    let above = down(t, kind, left - 1, n.parent, id);
+    match above {
+        Translated::Id(z) => lookup_back(map_lines(t, at as usize, kind), z),
+        Translated::Unmapped => Translated::Unmapped,
+    }
+}
+
+// The ID of a namespace that stands for a kernel ID. Linux: from_kuid, from_kgid.
+pub fn from_kernel(t: &Tables, kind: Kind, place: u64, id: u32) -> Translated
+    ensures { λ r. ⌜ r ≡ fromKernel (tablesOf (now (t .entry))) kind place id ⌝ }
+{
+    down(t, kind, height(t, place), place, id)
+}

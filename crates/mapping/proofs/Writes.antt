@@ -1,0 +1,283 @@
+-- The write of a map, in the words of the code: a law for each test, each refusal and the success. Assumes nothing.
+use Prim.Native.Nat.{ℕ, zero, suc, _+_, _-_, _≤_, _<_}
+use mathlib.Core.Path.{_≡_, refl, sym, ap, _∙_}
+use mathlib.Core.Bool.{Bool, true, false, cond, _&&_, _||_}
+use mathlib.Core.List.{List, [], _∷_, _++_}
+use mathlib.Core.Option.{Option, none, some}
+use native.Mathlib.Omega.{arith}
+use lib.Dec.{eqb, ltb}
+use lib.ListN.{length, take, drop, getD, replicate}
+use lib.Seq.{take-append-seam}
+use borrow.Author.Needs.{needs}
+use borrow.Author.Tests.{eq-eqb, ne-eqb, lt-ltb, le-ltb}
+use Rattle.prelude.proofs.Lists.{left-step, left-none}
+use Rattle.idmap.specs.declared.Line.{Line}
+use Rattle.idmap.specs.declared.Translated.{Translated}
+use Rattle.idmap.specs.declared.Translated.the-variants.{Id, Unmapped}
+use Rattle.idmap.specs.declared.text.MapText.{MapText}
+use Rattle.idmap.specs.declared.text.Parsed.the-variants.{Lines, Bad}
+use Rattle.idmap.specs.Line.{noLine, linesIn}
+use Rattle.idmap.specs.Good.{maxLines}
+use Rattle.idmap.specs.Cover.{coveredOf}
+use Rattle.idmap.specs.Text.{mapLines, mapText, padded}
+use Rattle.records.specs.declared.Kind.{Kind}
+use Rattle.records.specs.declared.Kind.the-variants.{User, Group}
+use Rattle.records.specs.declared.Ids.{Ids}
+use Rattle.records.specs.declared.MapState.the-variants.{Written}
+use Rattle.records.specs.declared.IdMap.{IdMap}
+use Rattle.records.specs.declared.Process.{Process}
+use Rattle.records.specs.declared.Namespace.{Namespace}
+use Rattle.records.specs.Records.{idsIn, mapIn, setIdOf, isWritten, linesOf}
+use Rattle.tables.specs.declared.answer.Errno.the-variants.{EPERM, ESRCH, EINVAL}
+use Rattle.tables.specs.declared.answer.Answer.{Answer}
+use Rattle.tables.specs.declared.answer.Answer.the-variants.{Refused, Done}
+use Rattle.tables.specs.declared.find.Found.{Found}
+use Rattle.tables.specs.declared.find.Found.the-variants.{At, Nothing}
+use Rattle.tables.specs.Tables.{State, tablesOf, processAt, namespaceAt, putNamespace}
+use Rattle.tables.specs.Find.{processNamed}
+use Rattle.tables.specs.Reply.{Outcome, Promise}
+use Rattle.tables.proofs.Promises.{refuses, answers}
+use Rattle.hierarchy.specs.Walks.{toKernel, capableIn}
+use Rattle.mapping.specs.Calls.{isNear, isId, mayByKind, singleLine, mayMap, allCovered, withMap, writtenMap, writeLinesTo, writeMapTo, writeMapOf}
+
+-- ---- near
+module _ (s : State) (w : Process) (n : ℕ) where
+  pub near-in : w .namespace ≡ n → true ≡ isNear s w n
+  unfolding isNear
+  near-in e = rw (eq-eqb (w .namespace) n e)
+
+  pub near-parent : (m : Namespace) → (w .namespace ≡ n → ⊥) → m ≡ namespaceAt s n → eqb (w .namespace) (m .parent) ≡ isNear s w n
+  unfolding isNear
+  near-parent m e q = rw (ne-eqb (w .namespace) n e, q)
+
+-- ---- is_id
+pub id-is : (r : Translated) (x y : ℕ) → r ≡ Id x → eqb x y ≡ isId r y
+id-is r x y e = rw e
+
+pub id-none : (r : Translated) (y : ℕ) → r ≡ Unmapped → false ≡ isId r y
+id-none r y e = rw e
+
+-- ---- single_line
+one-line : (ls : List Line) (d : Line) → 0 < length ls → take 1 ls ≡ getD ls 0 d ∷ []
+one-line [] d h = absurd (omega arith)
+one-line (l ∷ ls) d h = refl
+
+not-one : (s : State) (kind : Kind) (w : Process) (n : ℕ) (ls : List Line) (count : ℕ) → 1 < length ls → (count ≡ 1 → ⊥) → false ≡ singleLine s kind w n (take count ls)
+unfolding singleLine
+not-one s kind w n ls zero h e = refl
+not-one s kind w n ls (suc zero) h e = absurd (omega arith)
+not-one s kind w n [] (suc (suc k)) h e = refl
+not-one s kind w n (l ∷ []) (suc (suc k)) h e = absurd (omega arith)
+not-one s kind w n (l ∷ m ∷ ls) (suc (suc k)) h e = refl
+
+module _ (s : State) (kind : Kind) (w : Process) (n : ℕ) (ls : List Line) (count k : ℕ) (long : length ls ≡ k) where
+  pub single-other : 1 < k → (count ≡ 1 → ⊥) → false ≡ singleLine s kind w n (take count ls)
+  single-other h e = not-one s kind w n ls count (omega arith) e
+
+  module _ (one : count ≡ 1) (h : 1 < k) where
+    only : singleLine s kind w n (take count ls) ≡ singleLine s kind w n (getD ls 0 noLine ∷ [])
+    only = rw (one, one-line ls noLine (omega arith))
+
+    pub single-many : (getD ls 0 noLine .count ≡ 1 → ⊥) → false ≡ singleLine s kind w n (take count ls)
+    unfolding singleLine
+    single-many e = sym (only ∙ rw (ne-eqb (getD ls 0 noLine .count) 1 e))
+
+    module _ (e : getD ls 0 noLine .count ≡ 1) (m : Namespace) (tgt : m ≡ namespaceAt s n) (ids : Ids) (own : ids ≡ idsIn kind w) (r : Translated) (f : r ≡ toKernel s kind (m .parent) (getD ls 0 noLine .parent)) (t : Bool) (q : t ≡ isId r (ids .effective)) where
+      pub single-foreign : t ≡ false → false ≡ singleLine s kind w n (take count ls)
+      unfolding singleLine
+      single-foreign y = sym (only ∙ rw (eq-eqb (getD ls 0 noLine .count) 1 e, ← tgt, ← f, ← own, ← q, y))
+
+      pub single-unowned : t ≡ true → (w .users .effective ≡ m .owner → ⊥) → false ≡ singleLine s kind w n (take count ls)
+      unfolding singleLine
+      single-unowned y z = sym (only ∙ rw (eq-eqb (getD ls 0 noLine .count) 1 e, ← tgt, ← f, ← own, ← q, y, ne-eqb (w .users .effective) (m .owner) z))
+
+      pub single-owned : (b : Bool) → t ≡ true → w .users .effective ≡ m .owner → b ≡ mayByKind kind (m .deny) → b ≡ singleLine s kind w n (take count ls)
+      unfolding singleLine
+      single-owned b y z p = p ∙ sym (only ∙ rw (eq-eqb (getD ls 0 noLine .count) 1 e, ← tgt, ← f, ← own, ← q, y, eq-eqb (w .users .effective) (m .owner) z))
+
+-- ---- may_map
+module _ (s : State) (kind : Kind) (w : Process) (n : ℕ) (ls : List Line) (m : Namespace) (tgt : m ≡ namespaceAt s n) (k : ℕ) (num : k ≡ setIdOf kind) (t : Bool) (q : t ≡ capableIn s w (m .parent) k) where
+  pub may-capable : t ≡ true → true ≡ mayMap s kind w n ls
+  unfolding mayMap
+  may-capable y = sym (rw (← tgt, ← num, ← q, y))
+
+  pub may-single : (b : Bool) → t ≡ false → b ≡ singleLine s kind w n ls → b ≡ mayMap s kind w n ls
+  unfolding mayMap
+  may-single b y e = e ∙ sym (rw (← tgt, ← num, ← q, y))
+
+-- ---- all_covered
+module _ (above ls : List Line) (n i : ℕ) (inv : allCovered above (take n ls) ≡ allCovered above (drop i (take n ls))) where
+  pub covered-past : n ≤ i → true ≡ allCovered above (take n ls)
+  unfolding allCovered
+  covered-past h = sym (inv ∙ rw (left-none ls n i (omega arith)))
+
+  pub covered-end : (k : ℕ) → length ls ≡ k → k ≤ i → true ≡ allCovered above (take n ls)
+  unfolding allCovered
+  covered-end k e h = sym (inv ∙ rw (left-none ls n i (omega arith)))
+
+  module _ (k : ℕ) (e : length ls ≡ k) (below : i < k) (more : i < n) (t : Bool) (q : t ≡ coveredOf above (getD ls i noLine .parent) (getD ls i noLine .count)) where
+    covered-at : allCovered above (take n ls) ≡ (t && allCovered above (drop (i + 1) (take n ls)))
+    unfolding allCovered
+    covered-at = inv ∙ rw (left-step ls n i noLine more (omega arith), ← q)
+
+    pub covered-step : t ≡ true → allCovered above (take n ls) ≡ allCovered above (drop (i + 1) (take n ls))
+    covered-step y = rw y at covered-at
+
+    pub covered-no : t ≡ false → false ≡ allCovered above (take n ls)
+    covered-no y = sym (rw y at covered-at)
+
+-- ---- with_map
+module _ (kind : Kind) (n : Namespace) (m : IdMap) where
+  pub with-users : kind ≡ User → _≡_ {A = Namespace} (record { live = n .live; parent = n .parent; level = n .level; owner = n .owner; users = m; groups = n .groups; deny = n .deny }) (withMap kind n m)
+  unfolding withMap
+  with-users e = rw e
+
+  pub with-groups : kind ≡ Group → _≡_ {A = Namespace} (record { live = n .live; parent = n .parent; level = n .level; owner = n .owner; users = n .users; groups = m; deny = n .deny }) (withMap kind n m)
+  unfolding withMap
+  with-groups e = rw e
+
+-- ---- what the reader of a map's text answers
+bad-none : (o : Option (List Line)) → mapText o .parsed ≡ Bad → o ≡ none
+unfolding mapText
+bad-none none e = refl
+bad-none (some ls) e = let z : _≡_ {A = ℕ} 0 1 = cc in absurd (omega arith)
+
+front : (ls : List Line) (k : ℕ) → length ls ≡ k → take k (padded ls) ≡ ls
+unfolding padded
+front ls k e = rw (← e) (take-append-seam ls (replicate (maxLines - length ls) noLine))
+
+lines-some : (o : Option (List Line)) (k : ℕ) → mapText o .parsed ≡ Lines k → (o ≡ some (take k (mapText o .lines))) × (length (take k (mapText o .lines)) ≡ k) × (mapText o .lines ≡ padded (take k (mapText o .lines)))
+unfolding mapText
+lines-some none k e = let z : _≡_ {A = ℕ} 0 1 = cc in absurd (omega arith)
+lines-some (some ls) k e =
+    let h : length ls ≡ k = cc in
+    let f = front ls k h in
+    (ap some (sym f), ap length f ∙ h, ap padded (sym f))
+
+-- ---- write_lines
+module _ (l text : List ℕ) (kind : Kind) (w : Process) (n : ℕ) (r : MapText) (f : r ≡ mapText (mapLines text)) where
+  pub lines-bad : r .parsed ≡ Bad → Promise (Refused EINVAL) l l (writeLinesTo (tablesOf l) kind w n text)
+  unfolding writeLinesTo
+  lines-bad e =
+      let z = bad-none (mapLines text) (rw f at e) in
+      refuses EINVAL l (writeLinesTo (tablesOf l) kind w n text) (sym (rw z))
+
+  module _ (k : ℕ) (v : r .parsed ≡ Lines k) where
+    read-lines : mapLines text ≡ some (take k (r .lines))
+    read-lines = rw f (lines-some (mapLines text) k (rw f at v) .0)
+
+    read-map : _≡_ {A = IdMap} (record { state = Written k; lines = r .lines }) (writtenMap (take k (r .lines)))
+    read-map =
+        rw f
+        (let h = lines-some (mapLines text) k (rw f at v) in
+        λ i. record { state = Written (sym (h .1) i); lines = h .2 i })
+
+    module _ (t : Bool) (q : t ≡ mayMap (tablesOf l) kind w n (take k (r .lines))) where
+      pub lines-denied : t ≡ false → Promise (Refused EPERM) l l (writeLinesTo (tablesOf l) kind w n text)
+      unfolding writeLinesTo
+      lines-denied y = refuses EPERM l (writeLinesTo (tablesOf l) kind w n text) (sym (rw (read-lines, ← q, y)))
+
+      module _ (y : t ≡ true) (m : Namespace) (tgt : m ≡ namespaceAt (tablesOf l) n) (ws : List ℕ) (above : linesIn ws ≡ linesOf (mapIn kind (namespaceAt (tablesOf l) (m .parent)))) (u : Bool) (g : u ≡ allCovered (linesIn ws) (take k (r .lines))) where
+        cover-is : u ≡ allCovered (linesOf (mapIn kind (namespaceAt (tablesOf l) (m .parent)))) (take k (r .lines))
+        cover-is = rw above at g
+
+        pub lines-uncovered : u ≡ false → Promise (Refused EPERM) l l (writeLinesTo (tablesOf l) kind w n text)
+        unfolding writeLinesTo
+        lines-uncovered z = refuses EPERM l (writeLinesTo (tablesOf l) kind w n text) (sym (rw (read-lines, ← q, y, ← tgt, ← cover-is, z)))
+
+        pub lines-done : (new : Namespace) (l′ : List ℕ) → u ≡ true → new ≡ withMap kind m (record { state = Written k; lines = r .lines }) → tablesOf l′ ≡ putNamespace (tablesOf l) n new → Promise Done l l′ (writeLinesTo (tablesOf l) kind w n text)
+        unfolding writeLinesTo
+        lines-done new l′ z e p =
+            answers Done l l′ (writeLinesTo (tablesOf l) kind w n text) refl
+            (rw (read-lines, ← q, y, ← tgt, ← cover-is, z, p, e, read-map))
+
+-- ---- write_to
+-- a promise of one outcome is one of an equal outcome
+promised : (r : Answer) (l l′ : List ℕ) (o o′ : Outcome) → o ≡ o′ → Promise r l l′ o → Promise r l l′ o′
+promised r l l′ o o′ e p = record { outcome = p .outcome ∙ e; kept = p .kept }
+
+module _ (l text : List ℕ) (kind : Kind) (w : Process) (n : ℕ) where
+  pub to-initial : n ≡ 0 → Promise (Refused EPERM) l l (writeMapTo (tablesOf l) kind w n text)
+  unfolding writeMapTo
+  to-initial e = refuses EPERM l (writeMapTo (tablesOf l) kind w n text) (sym (rw (eq-eqb n 0 e)))
+
+  module _ (z : n ≡ 0 → ⊥) (t : Bool) (q : t ≡ isNear (tablesOf l) w n) where
+    pub to-far : t ≡ false → Promise (Refused EPERM) l l (writeMapTo (tablesOf l) kind w n text)
+    unfolding writeMapTo
+    to-far y = refuses EPERM l (writeMapTo (tablesOf l) kind w n text) (sym (rw (ne-eqb n 0 z, ← q, y)))
+
+    module _ (y : t ≡ true) where
+      pub to-empty : length text ≡ 0 → Promise (Refused EINVAL) l l (writeMapTo (tablesOf l) kind w n text)
+      unfolding writeMapTo
+      to-empty e = refuses EINVAL l (writeMapTo (tablesOf l) kind w n text) (sym (rw (ne-eqb n 0 z, ← q, y, eq-eqb (length text) 0 e)))
+
+      module _ (e : length text ≡ 0 → ⊥) where
+        pub to-long : 4095 < length text → Promise (Refused EINVAL) l l (writeMapTo (tablesOf l) kind w n text)
+        unfolding writeMapTo
+        to-long h = refuses EINVAL l (writeMapTo (tablesOf l) kind w n text) (sym (rw (ne-eqb n 0 z, ← q, y, ne-eqb (length text) 0 e, lt-ltb 4095 (length text) h)))
+
+        module _ (h : length text ≤ 4095) (m : Namespace) (tgt : m ≡ namespaceAt (tablesOf l) n) (map : IdMap) (own : map ≡ mapIn kind m) (u : Bool) (g : u ≡ isWritten (map .state)) where
+          pub to-written : u ≡ true → Promise (Refused EPERM) l l (writeMapTo (tablesOf l) kind w n text)
+          unfolding writeMapTo
+          to-written x = refuses EPERM l (writeMapTo (tablesOf l) kind w n text) (sym (rw (ne-eqb n 0 z, ← q, y, ne-eqb (length text) 0 e, le-ltb 4095 (length text) h, ← tgt, ← own, ← g, x)))
+
+          module _ (x : u ≡ false) (k : ℕ) (num : k ≡ setIdOf kind) (b : Bool) (c : b ≡ capableIn (tablesOf l) w n k) where
+            pub to-denied : b ≡ false → Promise (Refused EPERM) l l (writeMapTo (tablesOf l) kind w n text)
+            unfolding writeMapTo
+            to-denied d = refuses EPERM l (writeMapTo (tablesOf l) kind w n text) (sym (rw (ne-eqb n 0 z, ← q, y, ne-eqb (length text) 0 e, le-ltb 4095 (length text) h, ← tgt, ← own, ← g, x, ← num, ← c, d)))
+
+            pub to-lines : (r : Answer) (l′ : List ℕ) → b ≡ true → Promise r l l′ (writeLinesTo (tablesOf l) kind w n text) → Promise r l l′ (writeMapTo (tablesOf l) kind w n text)
+            unfolding writeMapTo
+            to-lines r l′ d p = promised r l l′ (writeLinesTo (tablesOf l) kind w n text) (writeMapTo (tablesOf l) kind w n text) (sym (rw (ne-eqb n 0 z, ← q, y, ne-eqb (length text) 0 e, le-ltb 4095 (length text) h, ← tgt, ← own, ← g, x, ← num, ← c, d))) p
+
+-- ---- write_map
+module _ (l text : List ℕ) (kind : Kind) (c name : ℕ) (r : Found) (f : r ≡ processNamed (tablesOf l) c) where
+  pub write-no-caller : r ≡ Nothing → Promise (Refused ESRCH) l l (writeMapOf (tablesOf l) kind c name text)
+  unfolding writeMapOf
+  write-no-caller n = refuses ESRCH l (writeMapOf (tablesOf l) kind c name text) (sym (rw (sym f ∙ n)))
+
+  module _ (i : ℕ) (v : r ≡ At i) (q : Found) (g : q ≡ processNamed (tablesOf l) name) where
+    pub write-no-target : q ≡ Nothing → Promise (Refused ESRCH) l l (writeMapOf (tablesOf l) kind c name text)
+    unfolding writeMapOf
+    write-no-target n = refuses ESRCH l (writeMapOf (tablesOf l) kind c name text) (sym (rw (sym f ∙ v, sym g ∙ n)))
+
+    pub write-found : (j : ℕ) (w p : Process) (a : Answer) (l′ : List ℕ) → q ≡ At j → w ≡ processAt (tablesOf l) i → p ≡ processAt (tablesOf l) j → Promise a l l′ (writeMapTo (tablesOf l) kind w (p .namespace) text) → Promise a l l′ (writeMapOf (tablesOf l) kind c name text)
+    unfolding writeMapOf
+    write-found j w p a l′ u d e b = promised a l l′ (writeMapTo (tablesOf l) kind w (p .namespace) text) (writeMapOf (tablesOf l) kind c name text) (sym (rw (sym f ∙ v, sym g ∙ u, ← d, ← e))) b
+
+pub ruleset tests = (
+  near-in,
+  near-parent,
+  id-is,
+  id-none,
+  single-other,
+  single-many,
+  single-foreign,
+  single-unowned,
+  single-owned,
+  may-capable,
+  may-single,
+  with-users,
+  with-groups,
+  needs,
+)
+
+pub ruleset covering = (covered-past, covered-end, covered-step, covered-no, needs)
+
+pub ruleset writing = (
+  lines-bad,
+  lines-denied,
+  lines-uncovered,
+  lines-done,
+  to-initial,
+  to-far,
+  to-empty,
+  to-long,
+  to-written,
+  to-denied,
+  to-lines,
+  write-no-caller,
+  write-no-target,
+  write-found,
+  needs,
+)

@@ -1,0 +1,49 @@
+-- `mapping::read::read_map` meets its contract. Assumes nothing.
+use mathlib.Core.Path.{_≡_}
+use native.Mathlib.Omega.{arith}
+use lib.ListN.{length}
+use borrow.Author.Needs.{needs}
+use Rattle.rows.proofs.Lists.{length-mapped}
+use Rattle.mapping.proofs.Reading.{map-short, map-read, reading}
+use Rattle.mapping.proofs.read.read_map.Statement.{statement}
+use Rattle.mapping.proofs.read.read_map.Tie as tie
+
+-- a map has room for five lines
+long : (c : tie.After-map-in) → length (c .map-in .result .lines) ≡ 5
+long c = search (needs, length-mapped)
+
+pub read-map-spec : {M : Type 1} → statement M
+read-map-spec =
+    tie.close (tie.spec
+    (λ c κs. search reading)  -- find-process-requires
+    (λ c. search reading)  -- enum-known-reader
+    (λ c. search reading)  -- enum-told
+    (λ c. search reading)  -- returns
+    (λ c κs. search reading)  -- find-process-requires-2
+    (λ c. search reading)  -- enum-known-place
+    (λ c. search reading)  -- enum-told-2
+    (λ c. search reading)  -- returns-2
+    (λ c κs. search reading)  -- process-at-requires
+    (λ c κs. search reading)  -- process-at-requires-2
+    (λ c κs. search reading)  -- namespace-at-requires
+    (λ c κs. search reading)  -- map-in-requires
+    (λ c κs. search reading)  -- line-count-requires
+    (λ c. search reading)  -- mul-if1
+    -- returns-3
+    (λ c.
+    map-short _ _ _ _ _ _ (c .before .before .before .before .before .before .before .before .before .before .before .before .before .before .find-process .ensures) _ (c .before .before .before .before .before .before .before .before .before .before .before .before .reader .given .1)
+    _ (c .before .before .before .before .before .before .before .before .before .before .find-process2 .ensures) _ (c .before .before .before .before .before .before .before .before .place .given .1)
+    _ (c .before .before .before .before .before .process-at2 .ensures) _ (c .before .before .before .before .namespace-at .ensures)
+    _ (c .before .before .before .map-in .ensures) (long (c .before .before .before)) _ (c .before .before .line-count .ensures)
+    (omega (arith, c .if1 .taken)))
+    (λ c κs. search reading)  -- view-requires
+    (λ c κs. search reading)  -- put-lines-requires
+    (λ c. search reading)  -- mul-t19
+    (λ c. search reading)  -- same-length
+    -- returns-4
+    (λ c.
+    map-read _ _ _ _ _ _ (c .before .before .before .before .before .before .before .before .before .before .before .before .before .before .before .before .before .before .before .find-process .ensures) _ (c .before .before .before .before .before .before .before .before .before .before .before .before .before .before .before .before .before .reader .given .1)
+    _ (c .before .before .before .before .before .before .before .before .before .before .before .before .before .before .before .find-process2 .ensures) _ (c .before .before .before .before .before .before .before .before .before .before .before .before .before .place .given .1)
+    _ (c .before .before .before .before .before .before .before .before .before .before .process-at2 .ensures) _ (c .before .before .before .before .before .before .before .before .before .namespace-at .ensures)
+    _ (c .before .before .before .before .before .before .before .before .map-in .ensures) (long (c .before .before .before .before .before .before .before .before)) _ (c .before .before .before .before .before .before .before .line-count .ensures)
+    _ _ _ (c .before .before .before .before .before .before .before .before .before .before .before .process-at .ensures) (c .before .before .before .before .before .if1 .left) (c .before .before .before .before .view .ensures) (c .before .before .put-lines .ensures)))

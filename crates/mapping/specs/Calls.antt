@@ -1,0 +1,197 @@
+-- The map files and the setgroups file, written and read: document 01, 'The calls, and the order in which each refuses'. Assumes nothing.
+use Prim.Native.Nat.{ℕ, min}
+use mathlib.Core.Bool.{Bool, true, false, cond, _&&_, _||_}
+use mathlib.Core.List.{List, [], _∷_, _++_, map}
+use mathlib.Core.Option.{Option, none, some}
+use lib.Dec.{eqb, leb, ltb}
+use lib.ListN.{length}
+use Rattle.prelude.specs.Parts.{fitsAt, putAt}
+use Rattle.idmap.specs.declared.Line.{Line}
+use Rattle.idmap.specs.declared.Translated.{Translated}
+use Rattle.idmap.specs.declared.Translated.the-variants.{Id, Unmapped}
+use Rattle.idmap.specs.Good.{maxLines, noId}
+use Rattle.idmap.specs.Cover.{coveredOf}
+use Rattle.idmap.specs.Text.{mapLines, padded}
+use Rattle.idmap.specs.Show.{linesText}
+use Rattle.records.specs.declared.Kind.{Kind}
+use Rattle.records.specs.declared.Kind.the-variants.{User, Group}
+use Rattle.records.specs.declared.MapState.{MapState}
+use Rattle.records.specs.declared.MapState.the-variants.{Unwritten, Written}
+use Rattle.records.specs.declared.IdMap.{IdMap}
+use Rattle.records.specs.declared.Process.{Process}
+use Rattle.records.specs.declared.Namespace.{Namespace}
+use Rattle.records.specs.Records.{idsIn, mapIn, setIdOf, isWritten, linesOf}
+use Rattle.tables.specs.Tables.{State, processAt, namespaceAt, putNamespace}
+use Rattle.tables.specs.Find.{processNamed}
+use Rattle.tables.specs.Reply.{Reply, refused, done, bytes, Outcome, refuse, onFound, when, unless}
+use Rattle.mapping.specs.declared.setgroups.Setting.{Setting}
+use Rattle.mapping.specs.declared.setgroups.Setting.the-variants.{Deny, Allow, Neither}
+use Rattle.hierarchy.specs.Walks.{toKernel, fromKernel, capableIn}
+
+-- ---- map write
+-- the writer is in namespace n or in its parent
+unfoldable pub isNear : State → Process → ℕ → Bool
+isNear s w n = eqb (w .namespace) n || eqb (w .namespace) (namespaceAt s n .parent)
+
+-- the lines are one line of count 1 whose parent start is, as a kernel ID, the writer's own effective ID of the kind, the writer's effective
+-- user ID is the owner, and for a group map setgroups is denied
+abbrev pub isId : Translated → ℕ → Bool
+isId (Id x) y = eqb x y
+isId Unmapped y = false
+
+abbrev pub mayByKind : Kind → Bool → Bool
+mayByKind User deny = true
+mayByKind Group deny = deny
+
+unfoldable pub singleLine : State → Kind → Process → ℕ → List Line → Bool
+singleLine s kind w n [] = false
+singleLine s kind w n (l ∷ []) =
+    eqb (l .count) 1
+    && (isId (toKernel s kind (namespaceAt s n .parent) (l .parent)) (idsIn kind w .effective)
+    && (eqb (w .users .effective) (namespaceAt s n .owner) && mayByKind kind (namespaceAt s n .deny)))
+singleLine s kind w n (l ∷ m ∷ ls) = false
+
+-- the writer has the capability in the parent, or the single line is its own
+unfoldable pub mayMap : State → Kind → Process → ℕ → List Line → Bool
+mayMap s kind w n ls = capableIn s w (namespaceAt s n .parent) (setIdOf kind) || singleLine s kind w n ls
+
+-- each parent-side ID has a line in the parent's map
+unfoldable pub allCovered : List Line → List Line → Bool
+allCovered above [] = true
+allCovered above (l ∷ ls) = coveredOf above (l .parent) (l .count) && allCovered above ls
+
+abbrev pub writtenMap : List Line → IdMap
+writtenMap ls = record { state = Written (length ls); lines = padded ls }
+
+unfoldable pub withMap : Kind → Namespace → IdMap → Namespace
+withMap User n m = record { live = n .live; parent = n .parent; level = n .level; owner = n .owner; users = m; groups = n .groups; deny = n .deny }
+withMap Group n m = record { live = n .live; parent = n .parent; level = n .level; owner = n .owner; users = n .users; groups = m; deny = n .deny }
+
+abbrev pub thenLines : {A : Type 0} → Option (List Line) → A → (List Line → A) → A
+thenLines none other next = other
+thenLines (some ls) other next = next ls
+
+-- the lines of the text, the writer's right to them, and their cover; then the map is stored
+unfoldable pub writeLinesTo : State → Kind → Process → ℕ → List ℕ → Outcome
+writeLinesTo s kind w n text =
+    thenLines (mapLines text) (refuse s 22) (λ ls.
+    unless (mayMap s kind w n ls) (refuse s 1)
+    (unless (allCovered (linesOf (mapIn kind (namespaceAt s (namespaceAt s n .parent)))) ls) (refuse s 1)
+    (record { reply = done; tables = putNamespace s n (withMap kind (namespaceAt s n) (writtenMap ls)) })))
+
+-- the write to namespace n by process w
+unfoldable pub writeMapTo : State → Kind → Process → ℕ → List ℕ → Outcome
+writeMapTo s kind w n text =
+    when (eqb n 0) (refuse s 1)
+    (unless (isNear s w n) (refuse s 1)
+    (when (eqb (length text) 0) (refuse s 22)
+    (when (ltb 4095 (length text)) (refuse s 22)
+    (when (isWritten (mapIn kind (namespaceAt s n) .state)) (refuse s 1)
+    (unless (capableIn s w n (setIdOf kind)) (refuse s 1) (writeLinesTo s kind w n text))))))
+
+unfoldable pub writeMapOf : State → Kind → ℕ → ℕ → List ℕ → Outcome
+writeMapOf s kind c name text =
+    onFound (processNamed s c) (refuse s 3) (λ w.
+    onFound (processNamed s name) (refuse s 3) (λ p. writeMapTo s kind (processAt s w) (processAt s p .namespace) text))
+
+-- ---- setgroups file write
+-- the bytes of "allow" and "deny"
+abbrev pub allowText : List ℕ
+allowText = 97 ∷ 108 ∷ 108 ∷ 111 ∷ 119 ∷ []
+
+abbrev pub denyText : List ℕ
+denyText = 100 ∷ 101 ∷ 110 ∷ 121 ∷ []
+
+unfoldable pub sameBytes : List ℕ → List ℕ → Bool
+sameBytes [] [] = true
+sameBytes [] (b ∷ y) = false
+sameBytes (a ∷ x) [] = false
+sameBytes (a ∷ x) (b ∷ y) = eqb a b && sameBytes x y
+
+-- a word, with or without one newline after
+unfoldable pub isWord : List ℕ → List ℕ → Bool
+isWord text word = sameBytes text word || sameBytes text (word ++ (10 ∷ []))
+
+unfoldable pub withDeny : Namespace → Bool → Namespace
+withDeny n d = record { live = n .live; parent = n .parent; level = n .level; owner = n .owner; users = n .users; groups = n .groups; deny = d }
+
+-- what a text sets: deny, allow, or nothing where it is neither
+unfoldable pub settingIn : List ℕ → Option Bool
+settingIn text = cond (isWord text denyText) (some true) (cond (isWord text allowText) (some false) none)
+
+-- the same as the code's answer
+abbrev pub settingOf : Option Bool → Setting
+settingOf none = Neither
+settingOf (some true) = Deny
+settingOf (some false) = Allow
+
+abbrev pub thenSetting : {A : Type 0} → Option Bool → A → A → A → A
+thenSetting none other deny allow = other
+thenSetting (some true) other deny allow = deny
+thenSetting (some false) other deny allow = allow
+
+unfoldable pub writeSetgroupsTo : State → Process → ℕ → List ℕ → Outcome
+writeSetgroupsTo s w n text =
+    unless (capableIn s w n 21) (refuse s 1)
+    (thenSetting (settingIn text) (refuse s 22)
+    (when (isWritten (namespaceAt s n .groups .state)) (refuse s 1) (record { reply = done; tables = putNamespace s n (withDeny (namespaceAt s n) true) }))
+    (when (namespaceAt s n .deny) (refuse s 1) (record { reply = done; tables = putNamespace s n (withDeny (namespaceAt s n) false) })))
+
+unfoldable pub writeSetgroupsOf : State → ℕ → ℕ → List ℕ → Outcome
+writeSetgroupsOf s c name text =
+    onFound (processNamed s c) (refuse s 3) (λ w.
+    onFound (processNamed s name) (refuse s 3) (λ p. writeSetgroupsTo s (processAt s w) (processAt s p .namespace) text))
+
+-- ---- reads
+-- what a read answers, and the buffer after it
+pub record ReadOutcome : Type 0 where
+  pub reply : Reply
+  pub buffer : List ℕ
+
+-- 34 if the buffer is shorter than the text; otherwise the text's length, and bytes beyond the text stay
+unfoldable pub readText : List ℕ → List ℕ → ReadOutcome
+readText text buffer = record { reply = cond (fitsAt buffer 0 text) (bytes (length text)) (refused 34); buffer = putAt buffer 0 text }
+
+-- field two is shown in the reader's namespace, or in the parent if the reader is in the target
+unfoldable pub viewOf : State → Process → ℕ → ℕ
+viewOf s r n = cond (eqb (r .namespace) n) (namespaceAt s n .parent) (r .namespace)
+
+abbrev pub orNoId : Translated → ℕ
+orNoId (Id x) = x
+orNoId Unmapped = noId
+
+-- the start of a line's parent side, of a map of namespace n, as namespace v sees it; 4294967295 if it has none
+abbrev pub seenStart : State → Kind → ℕ → ℕ → Translated → ℕ
+seenStart s kind n v (Id x) = orNoId (fromKernel s kind v x)
+seenStart s kind n v Unmapped = noId
+
+unfoldable pub shownLine : State → Kind → ℕ → ℕ → Line → Line
+shownLine s kind n v l = record {
+  inside = l .inside;
+  parent = seenStart s kind n v (toKernel s kind (namespaceAt s n .parent) (l .parent));
+  count = l .count;
+}
+
+-- how many lines a map has
+abbrev pub lineCount : MapState → ℕ
+lineCount Unwritten = 0
+lineCount (Written n) = min n maxLines
+
+-- the text of a map of namespace n, as namespace v sees it: lines in the order written
+unfoldable pub mapTextOf : State → Kind → ℕ → ℕ → List ℕ
+mapTextOf s kind n v = linesText (map (shownLine s kind n v) (linesOf (mapIn kind (namespaceAt s n))))
+
+unfoldable pub readMapOf : State → Kind → ℕ → ℕ → List ℕ → ReadOutcome
+readMapOf s kind c name buffer =
+    onFound (processNamed s c) (record { reply = refused 3; buffer = buffer }) (λ r.
+    onFound (processNamed s name) (record { reply = refused 3; buffer = buffer }) (λ p.
+    readText (mapTextOf s kind (processAt s p .namespace) (viewOf s (processAt s r) (processAt s p .namespace))) buffer))
+
+unfoldable pub settingText : Bool → List ℕ
+settingText deny = cond deny denyText allowText ++ (10 ∷ [])
+
+unfoldable pub readSetgroupsOf : State → ℕ → ℕ → List ℕ → ReadOutcome
+readSetgroupsOf s c name buffer =
+    onFound (processNamed s c) (record { reply = refused 3; buffer = buffer }) (λ r.
+    onFound (processNamed s name) (record { reply = refused 3; buffer = buffer }) (λ p.
+    readText (settingText (namespaceAt s (processAt s p .namespace) .deny)) buffer))

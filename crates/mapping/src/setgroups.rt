@@ -1,0 +1,123 @@
+// The setgroups file: its write.
+ghost use mathlib.Core.Path.{_≡_};
+ghost use mathlib.Core.Bool.{true, false};
+ghost use Rattle.tables.specs.Tables.{tablesOf};
+ghost use Rattle.tables.specs.Reply.{Promise};
+ghost use Rattle.mapping.specs.Calls.{sameBytes, isWord, settingOf, settingIn, withDeny, writeSetgroupsTo, writeSetgroupsOf, allowText, denyText};
+use hierarchy::capable::capable;
+use records::Namespace;
+use records::Process;
+use records::kinds::is_written;
+use tables::Tables;
+use tables::answer::Answer;
+use tables::answer::Errno;
+use tables::find::Found;
+use tables::find::find_process;
+use tables::namespaces::namespace_at;
+use tables::namespaces::namespace_put;
+use tables::processes::process_at;
+
+// What a text sets.
+enum Setting {
+    Deny,
+    Allow,
+    Neither,
+}
+
+// Whether two texts are the same bytes.
+fn same(a: &[u8], b: &[u8]) -> bool
+    ensures { λ r. ⌜ r ≡ sameBytes (now (a .entry)) (now (b .entry)) ⌝ }
+{
+    if a.len() == b.len() {} else {
+        return false;
+    }
+    let mut i: usize = 0;
+    while i < a.len() {
+        if a[i] == b[i] {
+            i += 1;
+        } else {
+            return false;
+        }
+    }
+    true
+}
+
+fn asked_setting(text: &[u8]) -> Setting
+    ensures { λ r. ⌜ r ≡ settingOf (settingIn (now (text .entry))) ⌝ }
+{
+    if same(text, b"deny") {
+        return Setting::Deny;
+    }
+    if same(text, b"deny\n") {
+        return Setting::Deny;
+    }
+    if same(text, b"allow") {
+        return Setting::Allow;
+    }
+    if same(text, b"allow\n") {
+        return Setting::Allow;
+    }
+    Setting::Neither
+}
+
+fn with_deny(n: Namespace, deny: bool) -> Namespace
+    ensures { λ r. ⌜ r ≡ withDeny n deny ⌝ }
+{
+    let users = n.users;
+    let groups = n.groups;
+    Namespace {
+        live: n.live,
+        parent: n.parent,
+        level: n.level,
+        owner: n.owner,
+        users: users,
+        groups: groups,
+        deny: deny,
+    }
+}
+
+// The write to namespace `n` by process `w`.
+fn write_to(t: &mut Tables, w: Process, n: u64, text: &[u8]) -> Answer
+    ensures { λ r. ⌜ Promise r (now (t .entry)) (now (t .exit)) (writeSetgroupsTo (tablesOf (now (t .entry))) w n (now (text .entry))) ⌝ }
+{
+    if capable(t, w, n, 21) {} else {
+        return Answer::Refused(Errno::EPERM);
+    }
+    let target = namespace_at(t, n as usize);
+    let asked = asked_setting(text);
+    match asked {
+        Setting::Neither => Answer::Refused(Errno::EINVAL),
+        Setting::Deny => {
+            let map = target.groups;
+            let state = map.state;
+            if is_written(state) {
+                return Answer::Refused(Errno::EPERM);
+            }
+            namespace_put(t, n as usize, with_deny(target, true));
+            Answer::Done
+        }
+        Setting::Allow => {
+            if target.deny {
+                return Answer::Refused(Errno::EPERM);
+            }
+            namespace_put(t, n as usize, with_deny(target, false));
+            Answer::Done
+        }
+    }
+}
+
+// Writes the setgroups setting of the namespace that process `name` is in. Refuses: 3 no caller or no such process; 1 without SYS_ADMIN in the
+// target; 22 a text that is neither word; 1 deny where the group map is written; 1 allow where the setting is deny.
+pub fn write_setgroups(t: &mut Tables, caller: u64, name: u64, text: &[u8]) -> Answer
+    ensures { λ r. ⌜ Promise r (now (t .entry)) (now (t .exit)) (writeSetgroupsOf (tablesOf (now (t .entry))) caller name (now (text .entry))) ⌝ }
+{
+    let Found::At(writer) = find_process(t, caller) else {
+        return Answer::Refused(Errno::ESRCH);
+    };
+    let Found::At(place) = find_process(t, name) else {
+        return Answer::Refused(Errno::ESRCH);
+    };
+    let w = process_at(t, writer);
+    let p = process_at(t, place);
+    write_to(t, w, p.namespace, text)
+}

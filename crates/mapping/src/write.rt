@@ -1,0 +1,233 @@
+// The write of a user or group map.
+ghost use mathlib.Core.Path.{_≡_};
+ghost use lib.ListN.{take};
+ghost use Rattle.idmap.specs.Line.{linesIn};
+ghost use Rattle.tables.specs.Tables.{tablesOf, namespaceAt};
+ghost use Rattle.tables.specs.Reply.{Promise};
+ghost use Rattle.mapping.specs.Calls.{isNear, isId, mayByKind, singleLine, mayMap, allCovered, withMap, writeLinesTo, writeMapTo, writeMapOf};
+use hierarchy::capable::capable;
+use hierarchy::translate::to_kernel;
+use idmap::Line;
+use idmap::MAX_LINES;
+use idmap::Translated;
+use idmap::cover::covered;
+use idmap::text::Parsed;
+use idmap::text::read_map;
+use records::IdMap;
+use records::Kind;
+use records::MapState;
+use records::Namespace;
+use records::Process;
+use records::kinds::ids_in;
+use records::kinds::is_written;
+use records::kinds::map_in;
+use records::kinds::set_id;
+use tables::Tables;
+use tables::answer::Answer;
+use tables::answer::Errno;
+use tables::find::Found;
+use tables::find::find_process;
+use tables::namespaces::map_lines;
+use tables::namespaces::namespace_at;
+use tables::namespaces::namespace_put;
+use tables::processes::process_at;
+
+// Whether a process is in a namespace or in its parent.
+fn near(t: &Tables, w: Process, n: u64) -> bool
+    ensures { λ r. ⌜ r ≡ isNear (tablesOf (now (t .entry))) w n ⌝ }
+{
+    if w.namespace == n {
+        return true;
+    }
+    let target = namespace_at(t, n as usize);
+    w.namespace == target.parent
+}
+
+fn is_id(r: Translated, id: u32) -> bool
+    ensures { λ b. ⌜ b ≡ isId r id ⌝ }
+{
+    match r {
+        Translated::Id(x) => x == id,
+        Translated::Unmapped => false,
+    }
+}
+
+// A group map of one's own asks that setgroups is denied.
+fn may_by_kind(kind: Kind, deny: bool) -> bool
+    ensures { λ r. ⌜ r ≡ mayByKind kind deny ⌝ }
+{
+    match kind {
+        Kind::User => true,
+        Kind::Group => deny,
+    }
+}
+
+// Whether the lines are one line for the writer's own effective ID, and the writer owns the namespace.
+fn single_line(
+    t: &Tables,
+    kind: Kind,
+    w: Process,
+    n: u64,
+    lines: [Line; MAX_LINES],
+    count: usize,
+) -> bool
+    ensures { λ r. ⌜ r ≡ singleLine (tablesOf (now (t .entry))) kind w n (take count lines) ⌝ }
+{
+    if count == 1 {} else {
+        return false;
+    }
+    let l = lines[0];
+    if l.count == 1 {} else {
+        return false;
+    }
+    let target = namespace_at(t, n as usize);
+    let ids = ids_in(kind, w);
+    let users = w.users;
+    if is_id(to_kernel(t, kind, target.parent, l.parent), ids.effective) {
+        if users.effective == target.owner {
+            may_by_kind(kind, target.deny)
+        } else {
+            false
+        }
+    } else {
+        false
+    }
+}
+
+// Whether the writer has the capability in the parent, or the single line is its own.
+fn may_map(
+    t: &Tables,
+    kind: Kind,
+    w: Process,
+    n: u64,
+    lines: [Line; MAX_LINES],
+    count: usize,
+) -> bool
+    ensures { λ r. ⌜ r ≡ mayMap (tablesOf (now (t .entry))) kind w n (take count lines) ⌝ }
+{
+    let target = namespace_at(t, n as usize);
+    if capable(t, w, target.parent, set_id(kind)) {
+        true
+    } else {
+        single_line(t, kind, w, n, lines, count)
+    }
+}
+
+// Whether each parent-side ID of the lines has a line in the map above.
+fn all_covered(above: &[u64], lines: [Line; MAX_LINES], count: usize) -> bool
+    ensures { λ r. ⌜ r ≡ allCovered (linesIn (now (above .entry))) (take count lines) ⌝ }
+{
+    let mut i: usize = 0;
+    while i < MAX_LINES {
+        if count <= i {
+            return true;
+        }
+        let l = lines[i];
+        if covered(above, l.parent, l.count) {
+            i += 1;
+        } else {
+            return false;
+        }
+    }
+    true
+}
+
+fn with_map(kind: Kind, n: Namespace, map: IdMap) -> Namespace
+    ensures { λ r. ⌜ r ≡ withMap kind n map ⌝ }
+{
+    let users = n.users;
+    let groups = n.groups;
+    match kind {
+        Kind::User => Namespace {
+            live: n.live,
+            parent: n.parent,
+            level: n.level,
+            owner: n.owner,
+            users: map,
+            groups: groups,
+            deny: n.deny,
+        },
+        Kind::Group => Namespace {
+            live: n.live,
+            parent: n.parent,
+            level: n.level,
+            owner: n.owner,
+            users: users,
+            groups: map,
+            deny: n.deny,
+        },
+    }
+}
+
+// The text read, the writer's right to those lines and their cover tested, and the map stored.
+fn write_lines(t: &mut Tables, kind: Kind, w: Process, n: u64, text: &[u8]) -> Answer
+    ensures { λ r. ⌜ Promise r (now (t .entry)) (now (t .exit)) (writeLinesTo (tablesOf (now (t .entry))) kind w n (now (text .entry))) ⌝ }
+{
+    let read = read_map(text);
+    let parsed = read.parsed;
+    let lines = read.lines;
+    let Parsed::Lines(count) = parsed else {
+        return Answer::Refused(Errno::EINVAL);
+    };
+    if may_map(t, kind, w, n, lines, count) {} else {
+        return Answer::Refused(Errno::EPERM);
+    }
+    let target = namespace_at(t, n as usize);
+    if all_covered(map_lines(t, target.parent as usize, kind), lines, count) {
+        let map = IdMap {
+            state: MapState::Written(count),
+            lines: lines,
+        };
+        namespace_put(t, n as usize, with_map(kind, target, map));
+        Answer::Done
+    } else {
+        Answer::Refused(Errno::EPERM)
+    }
+}
+
+// The write to namespace `n` by process `w`, in the order in which it refuses.
+fn write_to(t: &mut Tables, kind: Kind, w: Process, n: u64, text: &[u8]) -> Answer
+    ensures { λ r. ⌜ Promise r (now (t .entry)) (now (t .exit)) (writeMapTo (tablesOf (now (t .entry))) kind w n (now (text .entry))) ⌝ }
+{
+    if n == 0 {
+        return Answer::Refused(Errno::EPERM);
+    }
+    if near(t, w, n) {} else {
+        return Answer::Refused(Errno::EPERM);
+    }
+    if text.len() == 0 {
+        return Answer::Refused(Errno::EINVAL);
+    }
+    if 4095 < text.len() {
+        return Answer::Refused(Errno::EINVAL);
+    }
+    let target = namespace_at(t, n as usize);
+    let map = map_in(kind, target);
+    let state = map.state;
+    if is_written(state) {
+        return Answer::Refused(Errno::EPERM);
+    }
+    if capable(t, w, n, set_id(kind)) {
+        write_lines(t, kind, w, n, text)
+    } else {
+        Answer::Refused(Errno::EPERM)
+    }
+}
+
+// Writes the map of a kind of the namespace that process `name` is in. Refuses: 3 no caller or no such process; 1 the target is the initial
+// namespace, or the writer is neither in it nor in its parent; 22 a text of 0 or over 4,095 bytes; 1 already written; 1 without SETUID
+// (SETGID) in the target; 22 bad text; 1 without the capability in the parent where the text is no single line of the writer's own; 1 a
+// parent-side ID without a line in the parent's map.
+pub fn write_map(t: &mut Tables, kind: Kind, caller: u64, name: u64, text: &[u8]) -> Answer
+    ensures { λ r. ⌜ Promise r (now (t .entry)) (now (t .exit)) (writeMapOf (tablesOf (now (t .entry))) kind caller name (now (text .entry))) ⌝ }
+{
+    let Found::At(writer) = find_process(t, caller) else {
+        return Answer::Refused(Errno::ESRCH);
+    };
+    let Found::At(place) = find_process(t, name) else {
+        return Answer::Refused(Errno::ESRCH);
+    };
+    let w = process_at(t, writer);
+    let p = process_at(t, place);
+    write_to(t, kind, w, p.namespace, text)
+}

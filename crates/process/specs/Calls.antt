@@ -1,0 +1,94 @@
+-- Fork, clone, unshare and setns: document 01, 'The calls, and the order in which each refuses'. Assumes nothing.
+use Prim.Native.Nat.{ℕ, _+_}
+use mathlib.Core.Bool.{Bool, true, false, _&&_}
+use lib.Dec.{leb, eqb}
+use Rattle.capability.specs.Sets.{fullSet}
+use Rattle.idmap.specs.declared.Translated.{Translated}
+use Rattle.idmap.specs.declared.Translated.the-variants.{Id, Unmapped}
+use Rattle.records.specs.declared.Kind.the-variants.{User, Group}
+use Rattle.records.specs.declared.Process.{Process}
+use Rattle.records.specs.declared.Namespace.{Namespace}
+use Rattle.records.specs.Records.{freeMap}
+use Rattle.tables.specs.Tables.{State, processAt, namespaceAt, putProcess, putNamespace}
+use Rattle.tables.specs.Find.{processNamed, namespaceNamed, freeProcessPlace, freeNamespacePlace}
+use Rattle.tables.specs.Reply.{done, child, childIn, newNamespace, Outcome, refuse, onFound, when, unless}
+use Rattle.hierarchy.specs.Walks.{fromKernel, capableIn}
+
+-- document 01: SYS_ADMIN
+abbrev pub sysAdmin : ℕ
+sysAdmin = 21
+
+-- fork: copies all but the number
+unfoldable pub forkOf : State → ℕ → Outcome
+forkOf s c =
+    onFound (processNamed s c) (refuse s 3) (λ p.
+    onFound (freeProcessPlace s) (refuse s 11) (λ q.
+    record { reply = child (q + 1); tables = putProcess s q (processAt s p) }))
+
+-- ---- a new namespace
+abbrev pub isMapped : Translated → Bool
+isMapped (Id x) = true
+isMapped Unmapped = false
+
+-- the effective user and group ID of process p have a translation into its own namespace
+unfoldable pub knowsItself : State → Process → Bool
+knowsItself s p =
+    isMapped (fromKernel s User (p .namespace) (p .users .effective)) && isMapped (fromKernel s Group (p .namespace) (p .groups .effective))
+
+-- the namespace that process p makes, where own is the namespace that p is in: the setgroups setting is copied, both maps are unwritten
+unfoldable pub below : Process → Namespace → Namespace
+below p own = record {
+  live = true;
+  parent = p .namespace;
+  level = own .level + 1;
+  owner = p .users .effective;
+  users = freeMap;
+  groups = freeMap;
+  deny = own .deny;
+}
+
+-- process p as a member of namespace n: both sets full, its IDs unchanged
+unfoldable pub entered : Process → ℕ → Process
+entered p n = record {
+  live = p .live;
+  namespace = n;
+  users = p .users;
+  groups = p .groups;
+  supplementary = p .supplementary;
+  permitted = record { bits = fullSet };
+  effective = record { bits = fullSet };
+}
+
+-- clone and unshare alike, up to the free namespace n of caller p: 87, 1 and 28 in that order
+abbrev pub makesNamespace : State → ℕ → (ℕ → ℕ → Outcome) → Outcome
+makesNamespace s c next =
+    onFound (processNamed s c) (refuse s 3) (λ p.
+    when (leb 32 (namespaceAt s (processAt s p .namespace) .level)) (refuse s 87)
+    (unless (knowsItself s (processAt s p)) (refuse s 1)
+    (onFound (freeNamespacePlace s) (refuse s 28) (λ n. next p n))))
+
+-- the tables with namespace n made by process p
+abbrev pub withChild : State → ℕ → ℕ → State
+withChild s p n = putNamespace s n (below (processAt s p) (namespaceAt s (processAt s p .namespace)))
+
+-- the child becomes a member
+unfoldable pub cloneOf : State → ℕ → Outcome
+cloneOf s c =
+    makesNamespace s c (λ p n.
+    onFound (freeProcessPlace s) (refuse s 11) (λ q.
+    record { reply = childIn (q + 1) n; tables = putProcess (withChild s p n) q (entered (processAt s p) n) }))
+
+-- the caller becomes a member
+unfoldable pub unshareOf : State → ℕ → Outcome
+unshareOf s c =
+    makesNamespace s c (λ p n.
+    record { reply = newNamespace n; tables = putProcess (withChild s p n) p (entered (processAt s p) n) })
+
+-- ---- setns
+unfoldable pub setnsOf : State → ℕ → ℕ → Outcome
+setnsOf s c name =
+    onFound (processNamed s c) (refuse s 3) (λ p.
+    onFound (namespaceNamed s name) (refuse s 3) (λ n.
+    when (eqb (processAt s p .namespace) n) (refuse s 22)
+    (unless (capableIn s (processAt s p) n sysAdmin) (refuse s 1)
+    (record { reply = done; tables = putProcess s p (entered (processAt s p) n) }))))
