@@ -34,7 +34,8 @@ use Rattle.tables.specs.Tables.{State, processAt, namespaceAt}
 use Rattle.tables.specs.Find.{processNamed}
 use Rattle.tables.specs.Reply.{refused, bytes}
 use Rattle.hierarchy.specs.Walks.{toKernel, fromKernel}
-use Rattle.mapping.specs.Calls.{ReadOutcome, readText, viewOf, orNoId, shownLine, lineCount, mapTextOf, readMapOf, settingText, readSetgroupsOf, denyText, allowText}
+use Rattle.mapping.specs.Calls.{ReadOutcome, readText, viewOf, orNoId, shownLine, lineCount, mapTextOf, readMapOf}
+use Rattle.mapping.specs.Calls.{denyText, allowText, settingText, readSetgroupsOf}
 
 -- ---- view
 module _ (s : State) (r : Process) (n : ℕ) where
@@ -103,8 +104,9 @@ module _ (s : State) (kind : Kind) (n v : ℕ) (b : List ℕ) (ls : List Line) w
 
   module _ (t : List ℕ) (i count : ℕ) (inv : t ≡ putAt b 0 (linesText (map (shownLine s kind n v) (take i ls)))) where
     -- one more line is in place
-    pub lines-step : (d l : Line) (t′ : List ℕ) → length ls ≡ 5 → count ≤ 5 → count * 33 ≤ length b → i < count → l ≡ shownLine s kind n v (getD ls i d)
-        → t′ ≡ putAt t (i * 33) (lineText l) → t′ ≡ putAt b 0 (linesText (map (shownLine s kind n v) (take (i + 1) ls)))
+    pub lines-step : (d l : Line) (t′ : List ℕ) → length ls ≡ 5 → count ≤ 5 → count * 33 ≤ length b → i < count
+        → l ≡ shownLine s kind n v (getD ls i d) → t′ ≡ putAt t (i * 33) (lineText l)
+        → t′ ≡ putAt b 0 (linesText (map (shownLine s kind n v) (take (i + 1) ls)))
     lines-step d l t′ long most room h e q =
         let before = map (shownLine s kind n v) (take i ls) in
         let k : length (take i ls) ≡ i = length-take-le i ls (omega arith) in

@@ -86,7 +86,8 @@ module _ (text : List ℕ) (d : Bool) (deny : d ≡ sameBytes text denyText) whe
 
 -- ---- with_deny
 pub deny-stored : (n : Namespace) (d : Bool)
-    → _≡_ {A = Namespace} (record { live = n .live; parent = n .parent; level = n .level; owner = n .owner; users = n .users; groups = n .groups; deny = d }) (withDeny n d)
+    → _≡_ {A = Namespace}
+    (record { live = n .live; parent = n .parent; level = n .level; owner = n .owner; users = n .users; groups = n .groups; deny = d }) (withDeny n d)
 unfolding withDeny
 deny-stored n d = refl
 
@@ -109,43 +110,45 @@ setting-neither s (some false) e q = let z : Allow ≡ Neither = sym e ∙ q in 
 module _ (l : List ℕ) (w : Process) (n : ℕ) (text : List ℕ) (may : Bool) (capable : may ≡ capableIn (tablesOf l) w n 21) where
   pub write-denied : may ≡ false → Promise (Refused EPERM) l l (writeSetgroupsTo (tablesOf l) w n text)
   unfolding writeSetgroupsTo
-  write-denied e = refuses EPERM l (writeSetgroupsTo (tablesOf l) w n text) (rw (← capable, e))
+  write-denied e = refuses EPERM l _ (rw (← capable, e))
 
   module _ (able : may ≡ true) (t : Namespace) (target : t ≡ namespaceAt (tablesOf l) n) (a : Setting) (asked : a ≡ settingOf (settingIn text)) where
     pub write-neither : a ≡ Neither → Promise (Refused EINVAL) l l (writeSetgroupsTo (tablesOf l) w n text)
     unfolding writeSetgroupsTo
-    write-neither e = refuses EINVAL l (writeSetgroupsTo (tablesOf l) w n text) (rw (← capable, able, setting-neither a (settingIn text) asked e))
+    write-neither e = refuses EINVAL l _ (rw (← capable, able, setting-neither a (settingIn text) asked e))
 
     module _ (denies : a ≡ Deny) (written : Bool) (state : written ≡ isWritten (t .groups .state)) where
       pub deny-written : written ≡ true → Promise (Refused EPERM) l l (writeSetgroupsTo (tablesOf l) w n text)
       unfolding writeSetgroupsTo
-      deny-written e = refuses EPERM l (writeSetgroupsTo (tablesOf l) w n text) (rw (← capable, able, setting-deny a (settingIn text) asked denies, ← target, ← state, e))
+      deny-written e = refuses EPERM l _ (rw (← capable, able, setting-deny a (settingIn text) asked denies, ← target, ← state, e))
 
       pub deny-done : (m : Namespace) (l′ : List ℕ) → written ≡ false → m ≡ withDeny t true → tablesOf l′ ≡ putNamespace (tablesOf l) n m
           → Promise Done l l′ (writeSetgroupsTo (tablesOf l) w n text)
       unfolding writeSetgroupsTo
-      deny-done m l′ e made put = answers Done l l′ (writeSetgroupsTo (tablesOf l) w n text) refl (rw (put, ← capable, able, setting-deny a (settingIn text) asked denies, ← target, ← state, e, made))
+      deny-done m l′ e made put =
+          answers Done l l′ _ refl (rw (put, ← capable, able, setting-deny a (settingIn text) asked denies, ← target, ← state, e, made))
 
     module _ (allows : a ≡ Allow) where
       pub allow-denied : t .deny ≡ true → Promise (Refused EPERM) l l (writeSetgroupsTo (tablesOf l) w n text)
       unfolding writeSetgroupsTo
-      allow-denied e = refuses EPERM l (writeSetgroupsTo (tablesOf l) w n text) (rw (← capable, able, setting-allow a (settingIn text) asked allows, ← target, e))
+      allow-denied e = refuses EPERM l _ (rw (← capable, able, setting-allow a (settingIn text) asked allows, ← target, e))
 
       pub allow-done : (m : Namespace) (l′ : List ℕ) → t .deny ≡ false → m ≡ withDeny t false → tablesOf l′ ≡ putNamespace (tablesOf l) n m
           → Promise Done l l′ (writeSetgroupsTo (tablesOf l) w n text)
       unfolding writeSetgroupsTo withDeny
-      allow-done m l′ e made put = answers Done l l′ (writeSetgroupsTo (tablesOf l) w n text) refl (rw (put, ← capable, able, setting-allow a (settingIn text) asked allows, ← target, e, made))
+      allow-done m l′ e made put =
+          answers Done l l′ _ refl (rw (put, ← capable, able, setting-allow a (settingIn text) asked allows, ← target, e, made))
 
 -- ---- write_setgroups
 module _ (l : List ℕ) (c name : ℕ) (text : List ℕ) (f : Found) (caller : f ≡ processNamed (tablesOf l) c) where
   pub write-no-writer : f ≡ Nothing → Promise (Refused ESRCH) l l (writeSetgroupsOf (tablesOf l) c name text)
   unfolding writeSetgroupsOf
-  write-no-writer e = refuses ESRCH l (writeSetgroupsOf (tablesOf l) c name text) (rw (← caller, e))
+  write-no-writer e = refuses ESRCH l _ (rw (← caller, e))
 
   module _ (i : ℕ) (writer : f ≡ At i) (g : Found) (named : g ≡ processNamed (tablesOf l) name) where
     pub write-no-process : g ≡ Nothing → Promise (Refused ESRCH) l l (writeSetgroupsOf (tablesOf l) c name text)
     unfolding writeSetgroupsOf
-    write-no-process e = refuses ESRCH l (writeSetgroupsOf (tablesOf l) c name text) (rw (← caller, writer, ← named, e))
+    write-no-process e = refuses ESRCH l _ (rw (← caller, writer, ← named, e))
 
     pub write-there : (j : ℕ) (w p : Process) (r : Answer) (l′ : List ℕ) → g ≡ At j → w ≡ processAt (tablesOf l) i → p ≡ processAt (tablesOf l) j
         → Promise r l l′ (writeSetgroupsTo (tablesOf l) w (p .namespace) text) → Promise r l l′ (writeSetgroupsOf (tablesOf l) c name text)

@@ -12,7 +12,9 @@ use Rattle.mapping.proofs.read.put_lines.Statement.{statement}
 use Rattle.mapping.proofs.read.put_lines.Tie as tie
 
 abbrev Inv-loop : tie.InvT-loop
-Inv-loop t kind n v count buffer₀ lines i₀ buffer i = (i ≤ count) × (length lines ≡ 5) × (length buffer ≡ length buffer₀) × (buffer ≡ putAt buffer₀ 0 (linesText (map (shownLine (tablesOf t) kind n v) (take i lines))))
+Inv-loop t kind n v count buffer₀ lines i₀ buffer i =
+    (i ≤ count) × (length lines ≡ 5) × (length buffer ≡ length buffer₀)
+    × (buffer ≡ putAt buffer₀ 0 (linesText (map (shownLine (tablesOf t) kind n v) (take i lines))))
 
 abbrev μ-loop : tie.MeasureT-loop
 μ-loop t kind n v count buffer₀ lines i₀ buffer i = count - i

@@ -31,10 +31,12 @@ read-map-spec =
     (λ c. search reading)  -- mul-if1
     -- returns-3
     (λ c.
-    map-short _ _ _ _ _ _ (c .before .before .before .before .before .before .before .before .before .before .before .before .before .before .find-process .ensures) _ (c .before .before .before .before .before .before .before .before .before .before .before .before .reader .given .1)
-    _ (c .before .before .before .before .before .before .before .before .before .before .find-process2 .ensures) _ (c .before .before .before .before .before .before .before .before .place .given .1)
-    _ (c .before .before .before .before .before .process-at2 .ensures) _ (c .before .before .before .before .namespace-at .ensures)
-    _ (c .before .before .before .map-in .ensures) (long (c .before .before .before)) _ (c .before .before .line-count .ensures)
+    let m = c .before .before .before in
+    let p = m .before .before .before .before .before in
+    let r = p .before .before .before .before in
+    map-short _ _ _ _ _ _ (r .before .before .find-process .ensures) _ (r .reader .given .1)
+    _ (p .before .before .find-process2 .ensures) _ (p .place .given .1) _ (m .before .before .process-at2 .ensures)
+    _ (m .before .namespace-at .ensures) _ (m .map-in .ensures) (long m) _ (c .before .before .line-count .ensures)
     (omega (arith, c .if1 .taken)))
     (λ c κs. search reading)  -- view-requires
     (λ c κs. search reading)  -- put-lines-requires
@@ -42,8 +44,11 @@ read-map-spec =
     (λ c. search reading)  -- same-length
     -- returns-4
     (λ c.
-    map-read _ _ _ _ _ _ (c .before .before .before .before .before .before .before .before .before .before .before .before .before .before .before .before .before .before .before .find-process .ensures) _ (c .before .before .before .before .before .before .before .before .before .before .before .before .before .before .before .before .before .reader .given .1)
-    _ (c .before .before .before .before .before .before .before .before .before .before .before .before .before .before .before .find-process2 .ensures) _ (c .before .before .before .before .before .before .before .before .before .before .before .before .before .place .given .1)
-    _ (c .before .before .before .before .before .before .before .before .before .before .process-at2 .ensures) _ (c .before .before .before .before .before .before .before .before .before .namespace-at .ensures)
-    _ (c .before .before .before .before .before .before .before .before .map-in .ensures) (long (c .before .before .before .before .before .before .before .before)) _ (c .before .before .before .before .before .before .before .line-count .ensures)
-    _ _ _ (c .before .before .before .before .before .before .before .before .before .before .before .process-at .ensures) (c .before .before .before .before .before .if1 .left) (c .before .before .before .before .view .ensures) (c .before .before .put-lines .ensures)))
+    let m = c .before .before .before .before .before .before .before .before in
+    let p = m .before .before .before .before .before in
+    let r = p .before .before .before .before in
+    map-read _ _ _ _ _ _ (r .before .before .find-process .ensures) _ (r .reader .given .1)
+    _ (p .before .before .find-process2 .ensures) _ (p .place .given .1) _ (m .before .before .process-at2 .ensures)
+    _ (m .before .namespace-at .ensures) _ (m .map-in .ensures) (long m)
+    _ (c .before .before .before .before .before .before .before .line-count .ensures) _ _ _ (m .before .before .before .process-at .ensures)
+    (c .before .before .before .before .before .if1 .left) (c .before .before .before .before .view .ensures) (c .before .before .put-lines .ensures)))

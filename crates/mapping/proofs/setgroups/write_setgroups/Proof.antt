@@ -19,6 +19,8 @@ write-setgroups-spec =
     (λ c κs. search settings)  -- write-to-requires
     -- returns-3
     (λ c.
-    write-there _ _ _ _ _ (c .before .before .before .before .before .before .before .before .before .before .before .before .before .before .find-process .ensures) _ (c .before .before .before .before .before .before .before .before .before .before .before .before .writer .given .1)
-    _ (c .before .before .before .before .before .before .before .before .before .find-process2 .ensures) _ _ _ _ _ (c .before .before .before .before .before .before .before .place .given .1)
+    let p = c .before .before .before .before .before .before .before in
+    let w = p .before .before .before .before .before in
+    write-there _ _ _ _ _ (w .before .before .find-process .ensures) _ (w .writer .given .1)
+    _ (p .before .before .find-process2 .ensures) _ _ _ _ _ (p .place .given .1)
     (c .before .before .before .before .process-at .ensures) (c .before .before .process-at2 .ensures) (c .write-to .ensures)))
