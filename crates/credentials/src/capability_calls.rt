@@ -18,6 +18,7 @@ use tables::processes::process_at;
 use tables::processes::process_put;
 
 // Whether the caller holds a capability in a namespace. Refuses: 3 no caller or no such namespace, 22 the number is over 36.
+// Ruled out, for instance: an answer for number 37; yes for no.
 pub fn ask(t: &Tables, caller: u64, name: u64, number: u32) -> Answer
     ensures { λ r. ⌜ replyOf r ≡ capableReply (tablesOf (now (t .entry))) caller name number ⌝ }
 {
@@ -61,6 +62,7 @@ fn lowered(p: Process, permitted: u64, effective: u64) -> Process
 }
 
 // A drop of capabilities. Refuses: 3 no caller, 1 where the permitted set would gain one or the effective set is no part of it.
+// Ruled out, for instance: an effective set beyond the new permitted one; a permitted set that is not lowered.
 pub fn drop(t: &mut Tables, caller: u64, permitted: u64, effective: u64) -> Answer
     ensures { λ r. ⌜ Promise r (now (t .entry)) (now (t .exit)) (dropOf (tablesOf (now (t .entry))) caller permitted effective) ⌝ }
 {

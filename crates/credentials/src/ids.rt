@@ -170,6 +170,7 @@ fn permitted(t: &Tables, kind: Kind, p: Process, new: Ids, old: Ids) -> bool
 
 // Sets the caller's real, effective and saved IDs of a kind. Refuses: 3 no caller; 22 an ID that is not mapped; 1 where, without SETUID
 // (SETGID) in its own namespace, one is none of the present three.
+// Ruled out, for instance: sets kept when the effective ID 0 is given up; a saved ID that is none of the present three.
 pub fn set_ids(
     t: &mut Tables,
     kind: Kind,

@@ -71,6 +71,7 @@ fn seen_groups(t: &Tables, namespace: u64, groups: GroupList) -> GroupList
 }
 
 // The caller's own IDs. Refuses: 3 no caller.
+// Ruled out, for instance: kernel IDs shown as they are; group IDs by the user map.
 pub fn own_ids(t: &Tables, caller: u64) -> OwnIds
     ensures { λ r. ⌜ r ≡ ownIdsOf (tablesOf (now (t .entry))) caller ⌝ }
 {

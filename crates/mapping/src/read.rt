@@ -104,6 +104,7 @@ fn put_lines(
 
 // Reads the map of a kind of the namespace that process `name` is in. Answers the text's length. Refuses: 3 no caller or no such process; 34 a
 // buffer shorter than the text.
+// Ruled out, for instance: field two in the target itself; 32 bytes of room for a line of 33.
 pub fn read_map(t: &Tables, kind: Kind, caller: u64, name: u64, buffer: &mut [u8]) -> Answer
     ensures { λ r. ⌜ _≡_ {A = ReadOutcome} (record { reply = replyOf r; buffer = now (buffer .exit) }) (readMapOf (tablesOf (now (t .entry))) kind caller name (now (buffer .entry))) ⌝ }
 {
@@ -139,6 +140,7 @@ fn put_word(buffer: &mut [u8], text: &[u8]) -> Answer
 }
 
 // Reads the setgroups setting of the namespace that process `name` is in: "allow" or "deny" and a newline. Answers and refuses as read_map does.
+// Ruled out, for instance: the two words exchanged; a word without its newline.
 pub fn read_setgroups(t: &Tables, caller: u64, name: u64, buffer: &mut [u8]) -> Answer
     ensures { λ r. ⌜ _≡_ {A = ReadOutcome} (record { reply = replyOf r; buffer = now (buffer .exit) }) (readSetgroupsOf (tablesOf (now (t .entry))) caller name (now (buffer .entry))) ⌝ }
 {

@@ -108,6 +108,7 @@ fn write_to(t: &mut Tables, w: Process, n: u64, text: &[u8]) -> Answer
 
 // Writes the setgroups setting of the namespace that process `name` is in. Refuses: 3 no caller or no such process; 1 without SYS_ADMIN in the
 // target; 22 a text that is neither word; 1 deny where the group map is written; 1 allow where the setting is deny.
+// Ruled out, for instance: deny over a written group map; allow over deny.
 pub fn write_setgroups(t: &mut Tables, caller: u64, name: u64, text: &[u8]) -> Answer
     ensures { λ r. ⌜ Promise r (now (t .entry)) (now (t .exit)) (writeSetgroupsOf (tablesOf (now (t .entry))) caller name (now (text .entry))) ⌝ }
 {

@@ -218,6 +218,7 @@ fn write_to(t: &mut Tables, kind: Kind, w: Process, n: u64, text: &[u8]) -> Answ
 // namespace, or the writer is neither in it nor in its parent; 22 a text of 0 or over 4,095 bytes; 1 already written; 1 without SETUID
 // (SETGID) in the target; 22 bad text; 1 without the capability in the parent where the text is no single line of the writer's own; 1 a
 // parent-side ID without a line in the parent's map.
+// Ruled out, for instance: a map stored with IDs that the parent does not map; an empty text told before a writer from elsewhere.
 pub fn write_map(t: &mut Tables, kind: Kind, caller: u64, name: u64, text: &[u8]) -> Answer
     ensures { λ r. ⌜ Promise r (now (t .entry)) (now (t .exit)) (writeMapOf (tablesOf (now (t .entry))) kind caller name (now (text .entry))) ⌝ }
 {

@@ -26,6 +26,7 @@ use tables::processes::process_at;
 use tables::processes::process_put;
 
 // A copy of the caller, but for its number. Answers the child's number. Refuses: 3 no caller, 11 the process table is full.
+// Ruled out, for instance: the caller's number as the answer; a copy stored over the caller.
 pub fn fork(t: &mut Tables, caller: u64) -> Answer
     ensures { λ r. ⌜ Promise r (now (t .entry)) (now (t .exit)) (forkOf (tablesOf (now (t .entry))) caller) ⌝ }
 {
@@ -100,6 +101,7 @@ fn member(p: Process, namespace: u64) -> Process
 
 // A child in a new namespace. Answers the child's number and the namespace's. Refuses: 3 no caller, 87 the caller's level is 32, 1 its
 // effective IDs are not mapped in its own namespace, 28 no namespace is free, 11 no process is free.
+// Ruled out, for instance: the two numbers in the other order; a new namespace on the caller's own level.
 pub fn clone(t: &mut Tables, caller: u64) -> Answer
     ensures { λ r. ⌜ Promise r (now (t .entry)) (now (t .exit)) (cloneOf (tablesOf (now (t .entry))) caller) ⌝ }
 {
@@ -126,6 +128,7 @@ pub fn clone(t: &mut Tables, caller: u64) -> Answer
 }
 
 // The caller in a new namespace. Answers the namespace's number. Refuses as clone does, but for 11.
+// Ruled out, for instance: the parent's number as the answer; a new namespace on the caller's own level.
 pub fn unshare(t: &mut Tables, caller: u64) -> Answer
     ensures { λ r. ⌜ Promise r (now (t .entry)) (now (t .exit)) (unshareOf (tablesOf (now (t .entry))) caller) ⌝ }
 {
@@ -149,6 +152,7 @@ pub fn unshare(t: &mut Tables, caller: u64) -> Answer
 }
 
 // The caller joins a namespace. Refuses: 3 no caller or no such namespace, 22 already a member, 1 without SYS_ADMIN in it.
+// Ruled out, for instance: SYS_ADMIN asked in the caller's own namespace; done with the caller left where it was.
 pub fn setns(t: &mut Tables, caller: u64, name: u64) -> Answer
     ensures { λ r. ⌜ Promise r (now (t .entry)) (now (t .exit)) (setnsOf (tablesOf (now (t .entry))) caller name) ⌝ }
 {
