@@ -47,8 +47,12 @@ module _ (s : State) (c name number : ℕ) (r : Found) (named : r ≡ processNam
         ask-no e = rw (← named, at, ← space, in-it, le-ltb 36 number h, ← read, ← able, e)
 
 -- ---- the process with lowered sets
-module _ (p : Process) (permitted effective : ℕ) (small : permitted < 2 ^ 64) (slight : effective < 2 ^ 64) (part : isWithin permitted (p .permitted .bits) ≡ true) (within : isWithin effective permitted ≡ true) where
-  pub sets-made : (a b kept used : CapabilitySet) → a ≡ record { bits = permitted } → kept ≡ record { bits = loweredTo (p .permitted .bits) (a .bits) } → b ≡ record { bits = effective } → used ≡ record { bits = loweredTo (kept .bits) (b .bits) } → record { live = p .live; namespace = p .namespace; users = p .users; groups = p .groups; supplementary = p .supplementary; permitted = kept; effective = used } ≡ withSets p permitted effective
+module _ (p : Process) (permitted effective : ℕ) (small : permitted < 2 ^ 64) (slight : effective < 2 ^ 64)
+    (part : isWithin permitted (p .permitted .bits) ≡ true) (within : isWithin effective permitted ≡ true) where
+  pub sets-made : (a b kept used : CapabilitySet) → a ≡ record { bits = permitted }
+      → kept ≡ record { bits = loweredTo (p .permitted .bits) (a .bits) } → b ≡ record { bits = effective }
+      → used ≡ record { bits = loweredTo (kept .bits) (b .bits) }
+      → record { live = p .live; namespace = p .namespace; users = p .users; groups = p .groups; supplementary = p .supplementary; permitted = kept; effective = used } ≡ withSets p permitted effective
   unfolding withSets
   sets-made a b kept used ea ek eb eu =
       let first : kept ≡ record { bits = permitted } = ek ∙ rw (ea, lowered-all (p .permitted .bits) permitted part small) in
@@ -61,7 +65,8 @@ module _ (l : List ℕ) (c permitted effective : ℕ) (r : Found) (named : r ≡
   unfolding dropOf
   drop-nobody e = refuses ESRCH l (dropOf (tablesOf l) c permitted effective) (rw (← named, e))
 
-  module _ (i : ℕ) (at : r ≡ At i) (p : Process) (read : p ≡ processAt (tablesOf l) i) (new : CapabilitySet) (given : new ≡ record { bits = permitted }) (t : Bool) (tested : t ≡ isWithin (new .bits) (p .permitted .bits)) where
+  module _ (i : ℕ) (at : r ≡ At i) (p : Process) (read : p ≡ processAt (tablesOf l) i) (new : CapabilitySet)
+      (given : new ≡ record { bits = permitted }) (t : Bool) (tested : t ≡ isWithin (new .bits) (p .permitted .bits)) where
     part-tested : t ≡ isWithin permitted (p .permitted .bits)
     part-tested = rw given at tested
 
@@ -69,7 +74,8 @@ module _ (l : List ℕ) (c permitted effective : ℕ) (r : Found) (named : r ≡
     unfolding dropOf
     drop-gains e = refuses EPERM l (dropOf (tablesOf l) c permitted effective) (rw (← named, at, ← read, ← part-tested, e))
 
-    module _ (y : t ≡ true) (used : CapabilitySet) (also : used ≡ record { bits = effective }) (u : Bool) (part : u ≡ isWithin (used .bits) (new .bits)) where
+    module _ (y : t ≡ true) (used : CapabilitySet) (also : used ≡ record { bits = effective }) (u : Bool)
+        (part : u ≡ isWithin (used .bits) (new .bits)) where
       effective-tested : u ≡ isWithin effective permitted
       effective-tested = rw (also, given) at part
 
@@ -77,7 +83,8 @@ module _ (l : List ℕ) (c permitted effective : ℕ) (r : Found) (named : r ≡
       unfolding dropOf
       drop-no-part e = refuses EPERM l (dropOf (tablesOf l) c permitted effective) (rw (← named, at, ← read, ← part-tested, y, ← effective-tested, e))
 
-      pub drop-done : (l′ : List ℕ) (q : Process) → u ≡ true → q ≡ withSets p permitted effective → tablesOf l′ ≡ putProcess (tablesOf l) i q → Promise Done l l′ (dropOf (tablesOf l) c permitted effective)
+      pub drop-done : (l′ : List ℕ) (q : Process) → u ≡ true → q ≡ withSets p permitted effective → tablesOf l′ ≡ putProcess (tablesOf l) i q
+          → Promise Done l l′ (dropOf (tablesOf l) c permitted effective)
       unfolding dropOf
       drop-done l′ q e made put =
           answers Done l l′ (dropOf (tablesOf l) c permitted effective) refl
@@ -88,7 +95,22 @@ module _ (permitted : ℕ) (new : CapabilitySet) (given : new ≡ record { bits 
   pub given-part : (old : ℕ) (t : Bool) → t ≡ isWithin (new .bits) old → t ≡ true → isWithin permitted old ≡ true
   given-part old t tested y = sym (rw given at tested) ∙ y
 
-  pub given-within : (effective : ℕ) (used : CapabilitySet) (u : Bool) → used ≡ record { bits = effective } → u ≡ isWithin (used .bits) (new .bits) → u ≡ true → isWithin effective permitted ≡ true
+  pub given-within : (effective : ℕ) (used : CapabilitySet) (u : Bool) → used ≡ record { bits = effective } → u ≡ isWithin (used .bits) (new .bits)
+      → u ≡ true → isWithin effective permitted ≡ true
   given-within effective used u also tested y = sym (rw (also, given) at tested) ∙ y
 
-pub ruleset dropping = (ask-nobody, ask-nowhere, ask-no-number, ask-yes, ask-no, sets-made, drop-nobody, drop-gains, drop-no-part, drop-done, given-part, given-within, needs)
+pub ruleset dropping = (
+  ask-nobody,
+  ask-nowhere,
+  ask-no-number,
+  ask-yes,
+  ask-no,
+  sets-made,
+  drop-nobody,
+  drop-gains,
+  drop-no-part,
+  drop-done,
+  given-part,
+  given-within,
+  needs,
+)

@@ -74,7 +74,8 @@ module _ (s : State) (n : ℕ) (list ids : List ℕ) where
   kernel-starts = sym (prepended-nothing (kernelGroups s n list))
 
   module _ (i : ℕ) (inv : kernelGroups s n list ≡ kernelFrom s n list ids i) where
-    pub kernel-ends : length list ≤ i → length list ≤ 16 → i ≤ length list → length ids ≡ 16 → drop i ids ≡ replicate (16 - i) 0 → _≡_ {A = Listed} (record { mapped = true; groups = record { count = i; ids = ids } }) (listedOf (kernelGroups s n list))
+    pub kernel-ends : length list ≤ i → length list ≤ 16 → i ≤ length list → length ids ≡ 16 → drop i ids ≡ replicate (16 - i) 0
+        → _≡_ {A = Listed} (record { mapped = true; groups = record { count = i; ids = ids } }) (listedOf (kernelGroups s n list))
     unfolding kernelFrom kernelGroups allOf prepended
     kernel-ends h k b long rest =
         let so-far : _≡_ {A = GroupList} (record { count = i; ids = ids }) (groupList (take i ids)) = groups-so-far ids i long (omega arith) rest in
@@ -92,14 +93,17 @@ module _ (s : State) (n : ℕ) (list ids : List ℕ) where
 
       pub kernel-next : (x : ℕ) → r ≡ Id x → length list ≤ 16 → length ids ≡ 16 → kernelGroups s n list ≡ kernelFrom s n list (set ids i x) (i + 1)
       unfolding kernelFrom
-      kernel-next x e k long = kernel-step ∙ rw (e, prepended-next (take i ids) x (kernelGroups s n (drop (i + 1) list)), add-one, take-suc-set ids i x (omega arith))
+      kernel-next x e k long =
+          kernel-step
+          ∙ rw (e, prepended-next (take i ids) x (kernelGroups s n (drop (i + 1) list)), add-one, take-suc-set ids i x (omega arith))
 
 -- ---- none_listed, with_list
 pub listed-none : _≡_ {A = Listed} (record { mapped = false; groups = record { count = 0; ids = replicate 16 0 } }) (listedOf none)
 unfolding groupList
 listed-none = refl
 
-pub list-made : (p : Process) (new : GroupList) → record { live = p .live; namespace = p .namespace; users = p .users; groups = p .groups; supplementary = new; permitted = p .permitted; effective = p .effective } ≡ withList p new
+pub list-made : (p : Process) (new : GroupList)
+    → record { live = p .live; namespace = p .namespace; users = p .users; groups = p .groups; supplementary = new; permitted = p .permitted; effective = p .effective } ≡ withList p new
 unfolding withList
 list-made p new = refl
 
@@ -113,7 +117,8 @@ module _ (s : State) (i : ℕ) (p : Process) (listed : Listed) where
   after-none none e t = refl
   after-none (some ids) e t = absurd (true≢false (sym (ap (λ (a : Listed). a .mapped) e) ∙ t))
 
-  after-some : (o : Option (List ℕ)) → listed ≡ listedOf o → listed .mapped ≡ true → _≡_ {A = Outcome} (record { reply = done; tables = putProcess s i (withList p (listed .groups)) }) (thenList o (refuse s 22) (afterList s i p))
+  after-some : (o : Option (List ℕ)) → listed ≡ listedOf o → listed .mapped ≡ true
+      → _≡_ {A = Outcome} (record { reply = done; tables = putProcess s i (withList p (listed .groups)) }) (thenList o (refuse s 22) (afterList s i p))
   unfolding afterList
   after-some none e t = absurd (true≢false (sym t ∙ ap (λ (a : Listed). a .mapped) e))
   after-some (some ids) e t = rw e
@@ -123,12 +128,14 @@ module _ (l : List ℕ) (c : ℕ) (list : List ℕ) (r : Found) (named : r ≡ p
   unfolding setGroupsOf
   groups-nobody e = refuses ESRCH l (setGroupsOf (tablesOf l) c list) (rw (← named, e))
 
-  module _ (i : ℕ) (at : r ≡ At i) (p : Process) (read : p ≡ processAt (tablesOf l) i) (t : Bool) (able : t ≡ capableIn (tablesOf l) p (p .namespace) 6) where
+  module _ (i : ℕ) (at : r ≡ At i) (p : Process) (read : p ≡ processAt (tablesOf l) i) (t : Bool)
+      (able : t ≡ capableIn (tablesOf l) p (p .namespace) 6) where
     pub groups-incapable : t ≡ false → Promise (Refused EPERM) l l (setGroupsOf (tablesOf l) c list)
     unfolding setGroupsOf
     groups-incapable e = refuses EPERM l (setGroupsOf (tablesOf l) c list) (rw (← named, at, ← read, ← able, e))
 
-    module _ (y : t ≡ true) (own : Namespace) (home : own ≡ namespaceAt (tablesOf l) (p .namespace)) (w : Bool) (written : w ≡ isWritten (own .groups .state)) where
+    module _ (y : t ≡ true) (own : Namespace) (home : own ≡ namespaceAt (tablesOf l) (p .namespace)) (w : Bool)
+        (written : w ≡ isWritten (own .groups .state)) where
       pub groups-unwritten : w ≡ false → Promise (Refused EPERM) l l (setGroupsOf (tablesOf l) c list)
       unfolding setGroupsOf
       groups-unwritten e = refuses EPERM l (setGroupsOf (tablesOf l) c list) (rw (← named, at, ← read, ← able, y, ← home, ← written, e))
@@ -141,17 +148,23 @@ module _ (l : List ℕ) (c : ℕ) (list : List ℕ) (r : Found) (named : r ≡ p
         module _ (allowed : own .deny ≡ false) where
           pub groups-too-many : 16 < length list → Promise (Refused EINVAL) l l (setGroupsOf (tablesOf l) c list)
           unfolding setGroupsOf
-          groups-too-many h = refuses EINVAL l (setGroupsOf (tablesOf l) c list) (rw (← named, at, ← read, ← able, y, ← home, ← written, yw, allowed, lt-ltb 16 (length list) h))
+          groups-too-many h =
+              refuses EINVAL l (setGroupsOf (tablesOf l) c list)
+              (rw (← named, at, ← read, ← able, y, ← home, ← written, yw, allowed, lt-ltb 16 (length list) h))
 
           module _ (h : length list ≤ 16) (listed : Listed) (got : listed ≡ listedOf (kernelGroups (tablesOf l) (p .namespace) list)) where
-            groups-listed : setGroupsOf (tablesOf l) c list ≡ thenList (kernelGroups (tablesOf l) (p .namespace) list) (refuse (tablesOf l) 22) (afterList (tablesOf l) i p)
+            groups-listed : setGroupsOf (tablesOf l) c list
+                ≡ thenList (kernelGroups (tablesOf l) (p .namespace) list) (refuse (tablesOf l) 22) (afterList (tablesOf l) i p)
             unfolding setGroupsOf afterList
             groups-listed = rw (← named, at, ← read, ← able, y, ← home, ← written, yw, allowed, le-ltb 16 (length list) h)
 
             pub groups-unmapped : listed .mapped ≡ false → Promise (Refused EINVAL) l l (setGroupsOf (tablesOf l) c list)
-            groups-unmapped t = refuses EINVAL l (setGroupsOf (tablesOf l) c list) (after-none (tablesOf l) i p listed (kernelGroups (tablesOf l) (p .namespace) list) got t ∙ sym groups-listed)
+            groups-unmapped t =
+                refuses EINVAL l (setGroupsOf (tablesOf l) c list)
+                (after-none (tablesOf l) i p listed (kernelGroups (tablesOf l) (p .namespace) list) got t ∙ sym groups-listed)
 
-            pub groups-done : (l′ : List ℕ) (q : Process) → listed .mapped ≡ true → q ≡ withList p (listed .groups) → tablesOf l′ ≡ putProcess (tablesOf l) i q → Promise Done l l′ (setGroupsOf (tablesOf l) c list)
+            pub groups-done : (l′ : List ℕ) (q : Process) → listed .mapped ≡ true → q ≡ withList p (listed .groups)
+                → tablesOf l′ ≡ putProcess (tablesOf l) i q → Promise Done l l′ (setGroupsOf (tablesOf l) c list)
             groups-done l′ q t made put =
                 answers Done l l′ (setGroupsOf (tablesOf l) c list) refl
                 (rw (put, made) (after-some (tablesOf l) i p listed (kernelGroups (tablesOf l) (p .namespace) list) got t ∙ sym groups-listed))

@@ -105,14 +105,17 @@ kept-whole set lost t = rw t
 
 -- ---- the process after the change
 module _ (zero : Translated) (p : Process) (new : Ids) (all lost either : Bool) (a b : CapabilitySet) where
-  pub users-made : all ≡ losesAll zero (p .users) new → lost ≡ losesEffective zero (p .users) new → either ≡ (all || lost) → a ≡ cond all (record { bits = emptySet }) (p .permitted) → b ≡ cond either (record { bits = emptySet }) (p .effective) → record { live = p .live; namespace = p .namespace; users = new; groups = p .groups; supplementary = p .supplementary; permitted = a; effective = b } ≡ withUsers zero p new
+  pub users-made : all ≡ losesAll zero (p .users) new → lost ≡ losesEffective zero (p .users) new → either ≡ (all || lost)
+      → a ≡ cond all (record { bits = emptySet }) (p .permitted) → b ≡ cond either (record { bits = emptySet }) (p .effective)
+      → record { live = p .live; namespace = p .namespace; users = new; groups = p .groups; supplementary = p .supplementary; permitted = a; effective = b } ≡ withUsers zero p new
   unfolding withUsers
   users-made ea el ee pa pb =
       let first : a ≡ cond (losesAll zero (p .users) new) (record { bits = emptySet }) (p .permitted) = rw ea at pa in
       let second : b ≡ cond (losesAll zero (p .users) new || losesEffective zero (p .users) new) (record { bits = emptySet }) (p .effective) = rw (ee, ea, el) at pb in
       λ i. record { live = p .live; namespace = p .namespace; users = new; groups = p .groups; supplementary = p .supplementary; permitted = first i; effective = second i }
 
-pub groups-made : (p : Process) (new : Ids) → record { live = p .live; namespace = p .namespace; users = p .users; groups = new; supplementary = p .supplementary; permitted = p .permitted; effective = p .effective } ≡ withGroups p new
+pub groups-made : (p : Process) (new : Ids)
+    → record { live = p .live; namespace = p .namespace; users = p .users; groups = new; supplementary = p .supplementary; permitted = p .permitted; effective = p .effective } ≡ withGroups p new
 unfolding withGroups
 groups-made p new = refl
 
@@ -124,7 +127,8 @@ module _ (s : State) (kind : Kind) (p : Process) (new : Ids) (r : Process) where
   ids-group k e = rw k e
 
 -- ---- who may
-module _ (s : State) (kind : Kind) (p : Process) (new old : Ids) (number : ℕ) (set : number ≡ setIdOf kind) (t : Bool) (able : t ≡ capableIn s p (p .namespace) number) where
+module _ (s : State) (kind : Kind) (p : Process) (new old : Ids) (number : ℕ) (set : number ≡ setIdOf kind) (t : Bool)
+    (able : t ≡ capableIn s p (p .namespace) number) where
   pub may-capable : t ≡ true → true ≡ mayTake s kind p new old
   unfolding mayTake
   may-capable e = rw (← set, ← able, e)
@@ -147,7 +151,11 @@ module _ (l : List ℕ) (kind : Kind) (c real effective saved : ℕ) (r : Found)
   set-ids-nobody e = refuses ESRCH l (setIdsOf (tablesOf l) kind c real effective saved) (rw (← named, e))
 
   module _ (i : ℕ) (at : r ≡ At i) (p : Process) (read : p ≡ processAt (tablesOf l) i) (old : Ids) (present : old ≡ idsIn kind p) where
-    set-ids-found : setIdsOf (tablesOf l) kind c real effective saved ≡ thenThree (chosen (tablesOf l) kind (p .namespace) real (old .real)) (chosen (tablesOf l) kind (p .namespace) effective (old .effective)) (chosen (tablesOf l) kind (p .namespace) saved (old .saved)) (refuse (tablesOf l) 22) (afterThree (tablesOf l) kind i p old)
+    set-ids-found : setIdsOf (tablesOf l) kind c real effective saved ≡ thenThree
+        (chosen (tablesOf l) kind (p .namespace) real (old .real))
+        (chosen (tablesOf l) kind (p .namespace) effective (old .effective))
+        (chosen (tablesOf l) kind (p .namespace) saved (old .saved))
+        (refuse (tablesOf l) 22) (afterThree (tablesOf l) kind i p old)
     unfolding setIdsOf afterThree
     set-ids-found = rw (← named, at, ← read, ← present)
 
@@ -171,7 +179,9 @@ module _ (l : List ℕ) (kind : Kind) (c real effective saved : ℕ) (r : Found)
             unfolding afterThree
             set-ids-denied e = refuses EPERM l (setIdsOf (tablesOf l) kind c real effective saved) (sym (set-ids-three ∙ rw (← may, e)))
 
-            pub set-ids-done : (l′ : List ℕ) (q : Process) → t ≡ true → q ≡ withIds (tablesOf l) kind p (record { real = a; effective = b; saved = d }) → tablesOf l′ ≡ putProcess (tablesOf l) i q → Promise Done l l′ (setIdsOf (tablesOf l) kind c real effective saved)
+            pub set-ids-done : (l′ : List ℕ) (q : Process) → t ≡ true
+                → q ≡ withIds (tablesOf l) kind p (record { real = a; effective = b; saved = d }) → tablesOf l′ ≡ putProcess (tablesOf l) i q
+                → Promise Done l l′ (setIdsOf (tablesOf l) kind c real effective saved)
             unfolding afterThree
             set-ids-done l′ q e made put =
                 answers Done l l′ (setIdsOf (tablesOf l) kind c real effective saved) refl

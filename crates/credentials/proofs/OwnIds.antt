@@ -33,7 +33,8 @@ module _ (s : State) (kind : Kind) (n x : ℕ) (r : Translated) (found : r ≡ f
   pub seen-unmapped : r ≡ Unmapped → 65534 ≡ seen s kind n x
   seen-unmapped e = rw (← found, e)
 
-pub seen-three : (s : State) (kind : Kind) (n : ℕ) (i : Ids) (a b d : ℕ) → a ≡ seen s kind n (i .real) → b ≡ seen s kind n (i .effective) → d ≡ seen s kind n (i .saved) → record { real = a; effective = b; saved = d } ≡ seenIds s kind n i
+pub seen-three : (s : State) (kind : Kind) (n : ℕ) (i : Ids) (a b d : ℕ) → a ≡ seen s kind n (i .real) → b ≡ seen s kind n (i .effective)
+    → d ≡ seen s kind n (i .saved) → record { real = a; effective = b; saved = d } ≡ seenIds s kind n i
 seen-three s kind n i a b d p q r = λ j. record { real = p j; effective = q j; saved = r j }
 
 -- ---- the list, of which the first i are in place
@@ -50,12 +51,14 @@ module _ (s : State) (n : ℕ) where
   unfolding SeenTo
   seen-starts kernel ids = refl
 
-  pub seen-next : (kernel ids : List ℕ) (i x : ℕ) → SeenTo kernel ids i → i < 16 → length kernel ≡ 16 → length ids ≡ 16 → x ≡ seen s Group n (getD kernel i 0) → SeenTo kernel (set ids i x) (i + 1)
+  pub seen-next : (kernel ids : List ℕ) (i x : ℕ) → SeenTo kernel ids i → i < 16 → length kernel ≡ 16 → length ids ≡ 16
+      → x ≡ seen s Group n (getD kernel i 0) → SeenTo kernel (set ids i x) (i + 1)
   unfolding SeenTo
   seen-next kernel ids i x inv h k long e =
       rw (add-one, take-suc-set ids i x (omega arith), take-suc kernel i 0 (omega arith), map-append (seen s Group n) (take i kernel) (getD kernel i 0 ∷ []), inv, e)
 
-  module _ (g : GroupList) (ids : List ℕ) (i : ℕ) (inv : SeenTo (g .ids) ids i) (b : i ≤ g .count) (room : i ≤ 16) (long : length ids ≡ 16) (rest : drop i ids ≡ replicate (16 - i) 0) where
+  module _ (g : GroupList) (ids : List ℕ) (i : ℕ) (inv : SeenTo (g .ids) ids i) (b : i ≤ g .count) (room : i ≤ 16) (long : length ids ≡ 16)
+      (rest : drop i ids ≡ replicate (16 - i) 0) where
     pub seen-count : g .count ≤ i → record { count = i; ids = ids } ≡ seenGroups s n g
     unfolding SeenTo seenGroups
     seen-count h =
@@ -71,11 +74,14 @@ module _ (s : State) (n : ℕ) where
 
 -- ---- the call
 module _ (s : State) (c : ℕ) (r : Found) (named : r ≡ processNamed s c) where
-  pub own-nobody : r ≡ Nothing → _≡_ {A = OwnIds} (record { answer = Refused ESRCH; users = noIds; groups = noIds; supplementary = record { count = 0; ids = replicate 16 0 } }) (ownIdsOf s c)
+  pub own-nobody : r ≡ Nothing
+      → _≡_ {A = OwnIds} (record { answer = Refused ESRCH; users = noIds; groups = noIds; supplementary = record { count = 0; ids = replicate 16 0 } }) (ownIdsOf s c)
   unfolding ownIdsOf groupList
   own-nobody e = rw (← named, e)
 
-  pub own-found : (i : ℕ) (p : Process) (a b : Ids) (g : GroupList) → r ≡ At i → p ≡ processAt s i → a ≡ seenIds s User (p .namespace) (p .users) → b ≡ seenIds s Group (p .namespace) (p .groups) → g ≡ seenGroups s (p .namespace) (p .supplementary) → _≡_ {A = OwnIds} (record { answer = Own; users = a; groups = b; supplementary = g }) (ownIdsOf s c)
+  pub own-found : (i : ℕ) (p : Process) (a b : Ids) (g : GroupList) → r ≡ At i → p ≡ processAt s i → a ≡ seenIds s User (p .namespace) (p .users)
+      → b ≡ seenIds s Group (p .namespace) (p .groups) → g ≡ seenGroups s (p .namespace) (p .supplementary)
+      → _≡_ {A = OwnIds} (record { answer = Own; users = a; groups = b; supplementary = g }) (ownIdsOf s c)
   unfolding ownIdsOf
   own-found i p a b g at read ea eb eg = rw (← named, at, ← read, ea, eb, eg)
 

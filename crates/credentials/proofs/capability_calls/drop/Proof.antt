@@ -22,7 +22,8 @@ returns-2 c =
     let at-place = at-process .before .before .before in
     drop-done _ _ _ _ _ (at-place .before .before .find-process .ensures) _ (at-place .place .given .1) _ (at-process .process-at .ensures)
     _ (at-part .before .before .new .ensures) _ (at-part .before .within .ensures) (at-part .if1 .taken)
-    _ (at-within .before .before .new2 .ensures) _ (at-within .before .within2 .ensures) _ _ (at-within .if2 .taken) (at-made .lowered .ensures) (c .process-put .ensures)
+    _ (at-within .before .before .new2 .ensures) _ (at-within .before .within2 .ensures)
+    _ _ (at-within .if2 .taken) (at-made .lowered .ensures) (c .process-put .ensures)
 
 pub drop-spec : {M : Type 1} → statement M
 drop-spec =

@@ -11,7 +11,8 @@ use Rattle.credentials.proofs.groups.kernel_groups.Statement.{statement
 use Rattle.credentials.proofs.groups.kernel_groups.Tie as tie
 
 abbrev Inv-loop : tie.InvT-loop
-Inv-loop t namespace list ids₀ i₀ ids i = (i ≤ length list) × (length ids ≡ 16) × (drop i ids ≡ replicate (16 - i) 0) × (kernelGroups (tablesOf t) namespace list ≡ kernelFrom (tablesOf t) namespace list ids i)
+Inv-loop t namespace list ids₀ i₀ ids i =
+    (i ≤ length list) × (length ids ≡ 16) × (drop i ids ≡ replicate (16 - i) 0) × (kernelGroups (tablesOf t) namespace list ≡ kernelFrom (tablesOf t) namespace list ids i)
 
 abbrev μ-loop : tie.MeasureT-loop
 μ-loop t namespace list ids₀ i₀ ids i = length list - i
@@ -26,7 +27,8 @@ loop-again c =
       search needs,
       search needs,
       rest-empty (turn .before .loop .ids) (turn .before .loop .i) _ (search needs) (inv .2),
-      kernel-next _ _ (start .args .list .now) (turn .before .loop .ids) _ (inv .3) (turn .loop-test .taken) _ (at-read .to-kernel .ensures) _ told (start .pre) (inv .1),
+      kernel-next _ _ (start .args .list .now) (turn .before .loop .ids) _ (inv .3) (turn .loop-test .taken)
+          _ (at-read .to-kernel .ensures) _ told (start .pre) (inv .1),
     )
 
 pub kernel-groups-spec : {M : Type 1} → statement M

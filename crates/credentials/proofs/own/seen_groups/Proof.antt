@@ -10,7 +10,8 @@ use Rattle.credentials.proofs.own.seen_groups.Statement.{statement}
 use Rattle.credentials.proofs.own.seen_groups.Tie as tie
 
 abbrev Inv-loop : tie.InvT-loop
-Inv-loop t namespace kernel listed ids₀ i₀ ids i = (i ≤ 16) × (i ≤ listed) × (length ids ≡ 16) × (drop i ids ≡ replicate (16 - i) 0) × SeenTo (tablesOf t) namespace kernel ids i
+Inv-loop t namespace kernel listed ids₀ i₀ ids i =
+    (i ≤ 16) × (i ≤ listed) × (length ids ≡ 16) × (drop i ids ≡ replicate (16 - i) 0) × SeenTo (tablesOf t) namespace kernel ids i
 
 abbrev μ-loop : tie.MeasureT-loop
 μ-loop t namespace kernel listed ids₀ i₀ ids i = 16 - i
