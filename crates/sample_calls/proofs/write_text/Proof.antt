@@ -5,7 +5,6 @@ use borrow.Author.Needs.{needs}
 use Rattle.sample_calls.proofs.write_text.Statement.{statement}
 use Rattle.sample_calls.proofs.write_text.Tie as tie
 
--- src/main.rt:72:15
 slice-aggregate-write-3 : tie.Need-slice-aggregate-write-3
 slice-aggregate-write-3 c = sym (length-take-le (c .before .before .before .before .before .before .before .before .args .n) (c .before .before .before .before .before .before .before .before .args .buffer .now) (c .before .if1 .taken))
 

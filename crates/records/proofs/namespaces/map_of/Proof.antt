@@ -1,3 +1,4 @@
+-- `records::namespaces::map_of` meets its contract. Assumes nothing.
 use Prim.Native.Nat.{ℕ, _+_, _*_}
 use Rattle.idmap.specs.Line.{lineAt}
 use Rattle.rows.specs.Rows.{tab}
@@ -5,7 +6,6 @@ use borrow.Author.Needs.{needs}
 use Rattle.records.proofs.namespaces.map_of.Statement.{statement}
 use Rattle.records.proofs.namespaces.map_of.Tie as tie
 
--- src/maps.rt:35:1
 returns : tie.Need-returns
 returns c = λ i. record { state = c .state-of .ensures i; lines = tab (λ (j : ℕ). lineAt (c .before .before .before .before .before .before .before .before .before .before .before .before .before .before .before .before .before .before .before .args .words .now) (2 + 3 * j)) 5 0 }
 

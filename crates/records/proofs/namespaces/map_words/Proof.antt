@@ -1,3 +1,4 @@
+-- `records::namespaces::map_words` meets its contract. Assumes nothing.
 use Prim.Native.Nat.{ℕ}
 use mathlib.Core.Path.{_≡_}
 use lib.ListN.{length, getD}
@@ -27,7 +28,6 @@ line-e c = record { inside = search needs; parent = search needs; count = search
 long : (c : tie.Start) → length (c .args .m .lines) ≡ 5
 long c = search (needs, length-mapped)
 
--- src/maps.rt:72:1
 returns : tie.Need-returns
 returns c =
     map-round (c .before .before .before .before .before .before .before .before .before .before .before .before .before .before .before .before .before .before .before .before .before .before .before .args .m) _ _ (c .before .before .before .before .before .before .before .before .before .before .before .before .before .before .before .before .state-tag .ensures)

@@ -1,3 +1,4 @@
+-- `records::namespaces::namespace_words` meets its contract. Assumes nothing.
 use mathlib.Core.Path.{_≡_}
 use lib.ListN.{length}
 use mir.Val.{Fits}
@@ -16,7 +17,6 @@ long-groups c = search needs
 owner-fits : (c : tie.Start) → Fits w32 (c .args .n .owner)
 owner-fits c = search needs
 
--- src/namespaces.rt:37:1
 returns : tie.Need-returns
 returns c =
     namespace-round (c .before .before .before .before .before .before .before .args .n) _ _ (c .before .before .before .before .map-words .result) (c .before .before .before .map-words2 .result) (c .before .before .flag-word .ensures) (c .flag-word2 .ensures) (long-users (c .before .before .before .before)) (long-groups (c .before .before .before))

@@ -1,3 +1,4 @@
+-- `records::processes::process_words` meets its contract. Assumes nothing.
 use Prim.Native.Nat.{ℕ}
 use mathlib.Core.Path.{_≡_}
 use lib.ListN.{length, getD}
@@ -13,7 +14,6 @@ facts : (c : tie.Start) → (length (c .args .p .supplementary .ids) ≡ 16) × 
 facts c =
     (search needs, record { real = search needs; effective = search needs; saved = search needs }, record { real = search needs; effective = search needs; saved = search needs }, λ j. search needs)
 
--- src/processes.rt:68:1
 returns : tie.Need-returns
 returns c =
     let start = c .before .before .before .before .before .before .before .before .before .before .before .before in
