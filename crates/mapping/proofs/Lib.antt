@@ -1,3 +1,4 @@
 pub mod Writes
 pub mod Reading
 pub mod Settings
+pub mod Kept

@@ -3,3 +3,4 @@ pub mod Finding
 pub mod Filling
 pub mod Lines
 pub mod Promises
+pub mod ReadAfterStore
