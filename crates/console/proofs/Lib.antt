@@ -1,0 +1,2 @@
+-- The shared laws of `console`.
+pub mod Slices
