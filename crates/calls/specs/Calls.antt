@@ -7,15 +7,15 @@ use lib.ListN.{take, replicate}
 use Rattle.records.specs.declared.Ids.{Ids}
 use Rattle.records.specs.declared.GroupList.{GroupList}
 use Rattle.tables.specs.declared.answer.Answer.{Answer}
-use Rattle.tables.specs.declared.answer.Answer.the-variants.{Refused, Done, Child, ChildIn, NewNamespace, Yes, No, Length, Own}
+use Rattle.tables.specs.declared.answer.Answer.the-variants.{Refused, Done, Child, ChildIn, NewNamespace, Yes, No, Length, Id, Unmapped, Own}
 use Rattle.tables.specs.Tables.{State, tablesOf}
 use Rattle.tables.specs.Reply.{Reply, ids, replyOf, Outcome, isRefused}
 use Rattle.process.specs.Calls.{forkOf, cloneOf, unshareOf, setnsOf}
 use Rattle.mapping.specs.Calls.{ReadOutcome, writeMapOf, writeSetgroupsOf, readMapOf, readSetgroupsOf}
 use Rattle.credentials.specs.declared.own.OwnIds.{OwnIds}
-use Rattle.credentials.specs.Calls.{setIdsOf, setGroupsOf, capableReply, dropOf, noIds, ownIdsOf}
+use Rattle.credentials.specs.Calls.{setIdsOf, setGroupsOf, capableReply, dropOf, noIds, ownIdsOf, translateReply}
 use Rattle.calls.specs.declared.Call.{Call}
-use Rattle.calls.specs.declared.Call.the-variants.{Fork, Clone, Unshare, Setns, WriteMap, WriteSetgroups, ReadMap, ReadSetgroups, SetIds, SetGroups, Capable, Drop, OwnIdsOf}
+use Rattle.calls.specs.declared.Call.the-variants.{Fork, Clone, Unshare, Setns, WriteMap, WriteSetgroups, ReadMap, ReadSetgroups, SetIds, SetGroups, Capable, Drop, OwnIdsOf, Translate}
 
 -- a call with all that is lent beside it: a text, a list of groups and a buffer
 pub record Request : Type 0 where
@@ -44,6 +44,8 @@ replyBeside (NewNamespace n) u g s = replyOf (NewNamespace n)
 replyBeside Yes u g s = replyOf Yes
 replyBeside No u g s = replyOf No
 replyBeside (Length n) u g s = replyOf (Length n)
+replyBeside (Id x) u g s = replyOf (Id x)
+replyBeside Unmapped u g s = replyOf Unmapped
 replyBeside Own u g s = ids (idsList u g s)
 
 abbrev pub callReply : OwnIds → Reply
@@ -77,6 +79,7 @@ answerBy s (SetGroups c) text list buffer = stored (setGroupsOf s c list) buffer
 answerBy s (Capable c n number) text list buffer = asked s (capableReply s c n number) buffer
 answerBy s (Drop c p e) text list buffer = stored (dropOf s c p e) buffer
 answerBy s (OwnIdsOf c) text list buffer = asked s (callReply (ownIdsOf s c)) buffer
+answerBy s (Translate k w c n x) text list buffer = asked s (translateReply s k w c n x) buffer
 
 abbrev pub answerOf : State → Request → Step
 answerOf s r = answerBy s (r .call) (r .text) (r .list) (r .buffer)

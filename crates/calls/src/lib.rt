@@ -3,6 +3,7 @@ ghost use Rattle.tables.specs.Tables.{tablesOf};
 ghost use mathlib.Core.Path.{_≡_};
 ghost use Rattle.calls.specs.Calls.{callReply, plainOf, answerBy, CallPromise};
 use credentials::own::OwnIds;
+use credentials::translate::Way;
 use records::GroupList;
 use records::Ids;
 use records::Kind;
@@ -24,6 +25,7 @@ pub enum Call {
     Capable(u64, u64, u32),
     Drop(u64, u64, u64),
     OwnIdsOf(u64),
+    Translate(Kind, Way, u64, u64, u32),
 }
 
 // An answer that has no IDs beside it.
@@ -103,5 +105,13 @@ pub fn answer(t: &mut Tables, c: Call, text: &[u8], list: &[u32], buffer: &mut [
             effective,
         )),
         Call::OwnIdsOf(caller) => credentials::own::own_ids(t, caller),
+        Call::Translate(kind, way, caller, name, id) => plain(credentials::translate::translate(
+            t,
+            kind,
+            way,
+            caller,
+            name,
+            id,
+        )),
     }
 }

@@ -1,4 +1,4 @@
--- ID changes, setgroups, own IDs, the capability question and drop: document 01, 'The calls, and the order in which each refuses'.
+-- ID changes, setgroups, own IDs, the capability question, drop and translate: document 01, 'The calls, and the order in which each refuses'.
 -- Assumes nothing.
 use Prim.Native.Nat.{ℕ, _-_}
 use mathlib.Core.Bool.{Bool, true, false, cond, not, _&&_, _||_}
@@ -19,12 +19,14 @@ use Rattle.records.specs.declared.Process.{Process}
 use Rattle.records.specs.Records.{idsIn, setIdOf, isWritten}
 use Rattle.tables.specs.Tables.{State, processAt, namespaceAt, putProcess}
 use Rattle.tables.specs.Find.{processNamed, namespaceNamed}
-use Rattle.tables.specs.Reply.{Reply, refused, done, yes′, no′, Outcome, refuse, onFound, when, unless}
+use Rattle.tables.specs.Reply.{Reply, refused, done, yes′, no′, id, unmapped, Outcome, refuse, onFound, when, unless}
 use Rattle.tables.specs.declared.answer.Errno.the-variants.{ESRCH}
 use Rattle.tables.specs.declared.answer.Answer.the-variants.{Refused, Own}
 use Rattle.hierarchy.specs.Walks.{toKernel, fromKernel, capableIn}
 use Rattle.credentials.specs.declared.own.OwnIds.{OwnIds}
 use Rattle.credentials.specs.declared.groups.Listed.{Listed}
+use Rattle.credentials.specs.declared.translate.Way.{Way}
+use Rattle.credentials.specs.declared.translate.Way.the-variants.{Out, Back}
 
 -- ---- set real, effective, saved IDs of a kind
 -- what is given for one of the three: 4,294,967,295 leaves it as it is, another ID is translated out
@@ -194,3 +196,20 @@ ownIdsOf s c =
       groups = seenIds s Group (processAt s i .namespace) (processAt s i .groups);
       supplementary = seenGroups s (processAt s i .namespace) (processAt s i .supplementary);
     })
+
+-- ---- translate, naming a namespace
+-- out: the kernel ID that an ID of namespace n stands for; back: the ID of namespace n that stands for a kernel ID
+abbrev pub turned : State → Kind → Way → ℕ → ℕ → Translated
+turned s kind Out n x = toKernel s kind n x
+turned s kind Back n x = fromKernel s kind n x
+
+-- an ID, or "unmapped", which is an answer
+abbrev pub translated : Translated → Reply
+translated (Id y) = id y
+translated Unmapped = unmapped
+
+unfoldable pub translateReply : State → Kind → Way → ℕ → ℕ → ℕ → Reply
+translateReply s kind way c name x =
+    onFound (processNamed s c) (refused 3) (λ i.
+    onFound (namespaceNamed s name) (refused 3) (λ n.
+    translated (turned s kind way n x)))

@@ -1,5 +1,6 @@
-// The calls about a process's credentials: ID changes, setgroups, own IDs, the capability question and drop.
+// The calls about a process's credentials: ID changes, setgroups, own IDs, the capability question, drop and translate.
 pub mod capability_calls;
 pub mod groups;
 pub mod ids;
 pub mod own;
+pub mod translate;

@@ -7,7 +7,7 @@ use lib.ListN.{replicate}
 use Rattle.tables.specs.declared.answer.Errno.{Errno}
 use Rattle.tables.specs.declared.answer.Errno.the-variants.{EPERM, ESRCH, EAGAIN, EINVAL, ENOSPC, ERANGE, EUSERS}
 use Rattle.tables.specs.declared.answer.Answer.{Answer}
-use Rattle.tables.specs.declared.answer.Answer.the-variants.{Refused, Done, Child, ChildIn, NewNamespace, Yes, No, Length, Own}
+use Rattle.tables.specs.declared.answer.Answer.the-variants.{Refused, Done, Child, ChildIn, NewNamespace, Yes, No, Length, Id, Unmapped, Own}
 use Rattle.tables.specs.declared.find.Found.{Found}
 use Rattle.tables.specs.declared.find.Found.the-variants.{At, Nothing}
 use Rattle.tables.specs.Tables.{State, tablesOf}
@@ -20,6 +20,9 @@ pub data Reply : Type 0 where
   newNamespace : ℕ → Reply
   yes′ no′ : Reply
   bytes : ℕ → Reply
+  -- a translation: an ID, or "unmapped", which is an answer and no refusal
+  id : ℕ → Reply
+  unmapped : Reply
   ids : List ℕ → Reply
 
 -- the numbers of document 01's table of refusals
@@ -41,6 +44,8 @@ replyOf (NewNamespace n) = newNamespace n
 replyOf Yes = yes′
 replyOf No = no′
 replyOf (Length n) = bytes n
+replyOf (Id x) = id x
+replyOf Unmapped = unmapped
 replyOf Own = ids (replicate 6 0)
 
 -- what a call answers, and the tables that it leaves
@@ -61,6 +66,8 @@ isRefused (newNamespace n) = false
 isRefused yes′ = false
 isRefused no′ = false
 isRefused (bytes n) = false
+isRefused (id x) = false
+isRefused unmapped = false
 isRefused (ids l) = false
 
 -- what a call that may store promises: its answer and the tables are the outcome's, and a refusal leaves every word of the lent array as it was

@@ -18,6 +18,9 @@ pub enum Answer {
     Yes,
     No,
     Length(usize),
+    // A translation: an ID, or that it has none.
+    Id(u32),
+    Unmapped,
     // The process's own IDs, which stand beside the answer.
     Own,
 }
