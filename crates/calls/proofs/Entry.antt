@@ -7,15 +7,16 @@ use borrow.Author.Needs.{needs}
 use Rattle.records.specs.declared.Kind.{Kind}
 use Rattle.records.specs.declared.Ids.{Ids}
 use Rattle.tables.specs.declared.answer.Answer.{Answer}
-use Rattle.tables.specs.declared.answer.Answer.the-variants.{Refused, Done, Child, ChildIn, NewNamespace, Yes, No, Length, Own}
+use Rattle.tables.specs.declared.answer.Answer.the-variants.{Refused, Done, Child, ChildIn, NewNamespace, Yes, No, Length, Id, Unmapped, Own}
 use Rattle.tables.specs.Tables.{State, tablesOf}
 use Rattle.tables.specs.Reply.{Reply, replyOf, Outcome, isRefused, Promise}
 use Rattle.process.specs.Calls.{forkOf, cloneOf, unshareOf, setnsOf}
 use Rattle.mapping.specs.Calls.{ReadOutcome, writeMapOf, writeSetgroupsOf, readMapOf, readSetgroupsOf}
 use Rattle.credentials.specs.declared.own.OwnIds.{OwnIds}
-use Rattle.credentials.specs.Calls.{setIdsOf, setGroupsOf, capableReply, dropOf, ownIdsOf}
+use Rattle.credentials.specs.declared.translate.Way.{Way}
+use Rattle.credentials.specs.Calls.{setIdsOf, setGroupsOf, capableReply, dropOf, ownIdsOf, translateReply}
 use Rattle.calls.specs.declared.Call.{Call}
-use Rattle.calls.specs.declared.Call.the-variants.{Fork, Clone, Unshare, Setns, WriteMap, WriteSetgroups, ReadMap, ReadSetgroups, SetIds, SetGroups, Capable, Drop, OwnIdsOf}
+use Rattle.calls.specs.declared.Call.the-variants.{Fork, Clone, Unshare, Setns, WriteMap, WriteSetgroups, ReadMap, ReadSetgroups, SetIds, SetGroups, Capable, Drop, OwnIdsOf, Translate}
 use Rattle.calls.specs.Calls.{Step, callReply, plainOf, stored, asked, readBy, answerBy, CallPromise}
 
 -- ---- an answer with nothing beside it
@@ -28,6 +29,8 @@ plain-reply (NewNamespace n) = refl
 plain-reply Yes = refl
 plain-reply No = refl
 plain-reply (Length n) = refl
+plain-reply (Id x) = refl
+plain-reply Unmapped = refl
 plain-reply Own = refl
 
 module _ (r : OwnIds) (a : Answer) (e : r ≡ plainOf a) (l : List ℕ) where
@@ -108,6 +111,10 @@ module _ (c : Call) (l text list b : List ℕ) (r : OwnIds) where
   unfolding answerBy
   capable-step a p n number e q w = asks r a w l b (capableReply (tablesOf l) p n number) (answerBy (tablesOf l) c text list b) q (rw e)
 
+  pub translate-step : (a : Answer) (k : Kind) (w : Way) (p n x : ℕ) → c ≡ Translate k w p n x → replyOf a ≡ translateReply (tablesOf l) k w p n x → r ≡ plainOf a → CallPromise (callReply r) l l b (answerBy (tablesOf l) c text list b)
+  unfolding answerBy
+  translate-step a k w p n x e q z = asks r a z l b (translateReply (tablesOf l) k w p n x) (answerBy (tablesOf l) c text list b) q (rw e)
+
   pub own-ids-step : (p : ℕ) → c ≡ OwnIdsOf p → r ≡ ownIdsOf (tablesOf l) p → CallPromise (callReply r) l l b (answerBy (tablesOf l) c text list b)
   unfolding answerBy
   own-ids-step p e q = record { outcome = rw (e, q); kept = λ t. refl }
@@ -125,6 +132,7 @@ pub ruleset entry = (
   read-map-step,
   read-setgroups-step,
   capable-step,
+  translate-step,
   own-ids-step,
   needs,
 )

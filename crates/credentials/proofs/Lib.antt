@@ -2,3 +2,4 @@ pub mod IdChanges
 pub mod GroupLists
 pub mod OwnIds
 pub mod Capability
+pub mod Translating

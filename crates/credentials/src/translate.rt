@@ -31,7 +31,7 @@ fn turn(t: &Tables, kind: Kind, way: Way, place: u64, id: u32) -> Translated
 }
 
 // The translation of an ID between a namespace and the initial one, or that it has none. Refuses: 3 no caller or no such namespace.
-// Ruled out, for instance: an ID of the parent instead of the kernel ID; a refusal of an ID that is not mapped.
+// Ruled out, for instance: the parent's ID instead of the kernel ID; a refusal of an ID that is not mapped.
 pub fn translate(t: &Tables, kind: Kind, way: Way, caller: u64, name: u64, id: u32) -> Answer
     ensures { λ r. ⌜ replyOf r ≡ translateReply (tablesOf (now (t .entry))) kind way caller name id ⌝ }
 {

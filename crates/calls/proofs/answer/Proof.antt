@@ -44,6 +44,9 @@ answer-spec =
     (λ c κs. search entry)  -- plain-requires-12
     (λ c. search entry)  -- enum-known-c-13
     (λ c κs. search entry)  -- own-ids-requires
+    (λ c. search entry)  -- enum-known-c-14
+    (λ c κs. search entry)  -- translate-requires
+    (λ c κs. search entry)  -- plain-requires-13
     (λ c. search entry)  -- returns
     (λ c. search entry)  -- returns-2
     (λ c. search entry)  -- returns-3
@@ -58,4 +61,5 @@ answer-spec =
     (λ c. search entry)  -- returns-10
     (λ c. search entry)  -- returns-11
     (λ c. search entry)  -- returns-12
-    (λ c. search entry))  -- returns-13
+    (λ c. search entry)  -- returns-13
+    (λ c. search entry))  -- returns-14
