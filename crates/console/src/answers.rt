@@ -79,6 +79,8 @@ fn put_words(out: &mut [u8], at: usize, r: OwnIds) -> usize {
         Answer::Yes => put(out, at, b"yes"),
         Answer::No => put(out, at, b"no"),
         Answer::Length(n) => put_named(out, at, b"length", n as u64),
+        Answer::Id(x) => put_named(out, at, b"id", x as u64),
+        Answer::Unmapped => put(out, at, b"unmapped"),
         Answer::Own => put_own(out, at, r),
     }
 }

@@ -2,6 +2,7 @@
 use crate::tokens;
 use crate::tokens::Next;
 use calls::Call;
+use credentials::translate::Way;
 use records::Ids;
 use records::Kind;
 
@@ -19,6 +20,7 @@ pub enum Command {
     Capable,
     Drop,
     OwnIds,
+    Translate(Kind, Way),
     Fresh,
     Unknown,
 }
@@ -86,7 +88,22 @@ fn credentials_command(word: &[u8]) -> Command {
     Command::Unknown
 }
 
-// A file's words have a hyphen, and no other word has.
+fn translate_command(word: &[u8]) -> Command {
+    if tokens::same(word, b"translate-uid-out") {
+        return Command::Translate(Kind::User, Way::Out);
+    }
+    if tokens::same(word, b"translate-uid-back") {
+        return Command::Translate(Kind::User, Way::Back);
+    }
+    if tokens::same(word, b"translate-gid-out") {
+        return Command::Translate(Kind::Group, Way::Out);
+    }
+    if tokens::same(word, b"translate-gid-back") {
+        return Command::Translate(Kind::Group, Way::Back);
+    }
+    Command::Unknown
+}
+
 pub fn command_of(word: &[u8]) -> Command {
     let c = process_command(word);
     let Command::Unknown = c else {
@@ -96,7 +113,11 @@ pub fn command_of(word: &[u8]) -> Command {
     let Command::Unknown = d else {
         return d;
     };
-    mapping_command(word)
+    let e = mapping_command(word);
+    let Command::Unknown = e else {
+        return e;
+    };
+    translate_command(word)
 }
 
 // The arguments of a line: how many numbers, and where the first byte of a text after them stands; or something else.
@@ -160,6 +181,12 @@ fn question_call(command: Command, caller: u64, second: u64, third: u64) -> Made
             Made::Call(Call::Capable(caller, second, third as u32))
         }
         Command::Drop => Made::Call(Call::Drop(caller, second, third)),
+        Command::Translate(kind, way) => {
+            if third > 4294967295 {
+                return Made::Nothing;
+            }
+            Made::Call(Call::Translate(kind, way, caller, second, third as u32))
+        }
         _ => Made::Nothing,
     }
 }
