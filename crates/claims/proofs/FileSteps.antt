@@ -1,0 +1,121 @@
+-- The writes of the map files and of the setgroups file: what each leaves agrees with its history, and it was allowed. Assumes nothing.
+use Prim.Native.Nat.{ℕ, _-_}
+use mathlib.Core.Path.{_≡_, refl, sym, ap, _∙_}
+use mathlib.Core.Bool.{Bool, true, false, cond, _&&_, true≢false}
+use mathlib.Core.List.{List}
+use mathlib.Core.Option.{none, some}
+use lib.Dec.{eqb}
+use lib.ListN.{length, replicate}
+use lib.Seq.{take-append-seam}
+use Rattle.idmap.specs.declared.Line.{Line}
+use Rattle.idmap.specs.Line.{noLine}
+use Rattle.idmap.specs.Good.{maxLines}
+use Rattle.idmap.specs.Text.{mapLines, padded}
+use Rattle.records.specs.declared.Kind.{Kind}
+use Rattle.records.specs.declared.Kind.the-variants.{User, Group}
+use Rattle.records.specs.declared.Namespace.{Namespace}
+use Rattle.records.specs.declared.MapState.{MapState}
+use Rattle.records.specs.declared.MapState.the-variants.{Unwritten, Written}
+use Rattle.records.specs.declared.IdMap.{IdMap}
+use Rattle.records.specs.Records.{mapIn, isWritten}
+use Rattle.tables.specs.declared.find.Found.the-variants.{At}
+use Rattle.tables.specs.Tables.{State, processAt, namespaceAt, putNamespace}
+use Rattle.tables.specs.Find.{processNamed}
+use Rattle.mapping.specs.Calls.{writtenMap, withMap, writeMapOf, withDeny, writeSetgroupsOf}
+use Rattle.calls.specs.declared.Call.the-variants.{WriteMap, WriteSetgroups}
+use Rattle.claims.specs.Events.{Event, other, mapped}
+use Rattle.claims.specs.Words.{isProcess, isNamespace, placeOf, parentOf, levelOf, mapOf, heldOf, sameKind}
+use Rattle.claims.specs.Agreement.{linesIf, writtenIn, Agreed}
+use Rattle.claims.proofs.Allowed.{SoundAt}
+use Rattle.claims.proofs.Stores.{namespace-in-range}
+use Rattle.claims.proofs.Agree.{picked-same, stores-namespace, caller-live, caller-place}
+use Rattle.claims.proofs.Steps.{Next, nothing-happened, After}
+use Rattle.claims.proofs.Cases.{write-map-case, write-setgroups-case}
+
+-- ---- a namespace with a map, and with a setting
+map-live : (k : Kind) (n : Namespace) (m : IdMap) → withMap k n m .live ≡ n .live
+unfolding withMap
+map-live User n m = refl
+map-live Group n m = refl
+
+map-parent : (k : Kind) (n : Namespace) (m : IdMap) → withMap k n m .parent ≡ n .parent
+unfolding withMap
+map-parent User n m = refl
+map-parent Group n m = refl
+
+map-level : (k : Kind) (n : Namespace) (m : IdMap) → withMap k n m .level ≡ n .level
+unfolding withMap
+map-level User n m = refl
+map-level Group n m = refl
+
+deny-map : (k : Kind) (n : Namespace) (b : Bool) → mapIn k (withDeny n b) ≡ mapIn k n
+unfolding withDeny
+deny-map User n b = refl
+deny-map Group n b = refl
+
+-- a map that is written with lines has them
+written-lines : (ls : List Line) → writtenIn (writtenMap ls) ≡ some ls
+unfolding padded
+written-lines ls = ap some (take-append-seam ls (replicate (maxLines - length ls) noLine))
+
+unwritten-is : (m : IdMap) → isWritten (m .state) ≡ false → writtenIn m ≡ none
+unwritten-is m e = by-state (m .state) e
+  where
+    by-state : (t : MapState) → isWritten t ≡ false → linesIf t (m .lines) ≡ none
+    by-state Unwritten e = refl
+    by-state (Written n) e = absurd (true≢false e)
+
+module _ (s : State) (h : List Event) (a : Agreed s h) (d : SoundAt h) (text list : List ℕ) where
+  -- the namespace of a process that is named
+  module _ (name p : ℕ) (e : processNamed s name ≡ At p) where
+    target : ℕ
+    target = processAt s p .namespace
+
+    target-live : namespaceAt s (processAt s p .namespace) .live ≡ true
+    target-live = a .namespace-live (processAt s p .namespace) ∙ rw (caller-place s h a name p e) (d .placed name (caller-live s h a name p e))
+
+    -- the maps after a write: those of the other kind and of other namespaces are as they were
+    maps-after : (j k : Kind) (ls : List Line) → mapLines text ≡ some ls → (i : ℕ)
+        → cond (eqb i (processAt s p .namespace)) (writtenIn (mapIn k (withMap j (namespaceAt s (processAt s p .namespace)) (writtenMap ls)))) (mapOf k h i) ≡ cond (sameKind k j && eqb i (placeOf h name)) (mapLines text) (mapOf k h i)
+    unfolding withMap
+    maps-after User User ls m i = rw (caller-place s h a name p e, m, written-lines ls)
+    maps-after Group Group ls m i = rw (caller-place s h a name p e, m, written-lines ls)
+    maps-after User Group ls m i = picked-same (mapOf Group h) i (processAt s p .namespace) _ (a .namespace-map Group (processAt s p .namespace))
+    maps-after Group User ls m i = picked-same (mapOf User h) i (processAt s p .namespace) _ (a .namespace-map User (processAt s p .namespace))
+
+    mapped-next : (k : Kind) (ls : List Line) → mapLines text ≡ some ls → isWritten (mapIn k (namespaceAt s (processAt s p .namespace)) .state) ≡ false
+        → Next h (mapped k name text) (putNamespace s (processAt s p .namespace) (withMap k (namespaceAt s (processAt s p .namespace)) (writtenMap ls)))
+    unfolding isProcess isNamespace placeOf parentOf levelOf mapOf heldOf
+    mapped-next k ls m w =
+        let n = processAt s p .namespace in
+        record {
+          agree = stores-namespace s _ _ _ _ _ _ _ a n (withMap k (namespaceAt s n) (writtenMap ls)) (namespace-in-range s n target-live) _ _ _ _
+              (λ i. picked-same (isNamespace h) i n _ (map-live k (namespaceAt s n) (writtenMap ls) ∙ a .namespace-live n))
+              (λ i. picked-same (parentOf h) i n _ (map-parent k (namespaceAt s n) (writtenMap ls) ∙ a .namespace-parent n))
+              (λ i. picked-same (levelOf h) i n _ (map-level k (namespaceAt s n) (writtenMap ls) ∙ a .namespace-level n))
+              (λ j i. maps-after k j ls m i);
+          allowed = record {
+            process = caller-live s h a name p e;
+            unwritten = rw (← caller-place s h a name p e) (sym (a .namespace-map k n) ∙ unwritten-is (mapIn k (namespaceAt s n)) w);
+          };
+        }
+
+    -- a setting changes nothing that a history tells
+    set-next : (b : Bool) → Next h other (putNamespace s (processAt s p .namespace) (withDeny (namespaceAt s (processAt s p .namespace)) b))
+    unfolding withDeny
+    set-next b =
+        let n = processAt s p .namespace in
+        nothing-happened _ h
+        (stores-namespace s _ _ _ _ _ _ _ a n (withDeny (namespaceAt s n) b) (namespace-in-range s n target-live) _ _ _ _
+        (λ i. picked-same (isNamespace h) i n _ (a .namespace-live n))
+        (λ i. picked-same (parentOf h) i n _ (a .namespace-parent n))
+        (λ i. picked-same (levelOf h) i n _ (a .namespace-level n))
+        (λ k i. picked-same (mapOf k h) i n _ (ap writtenIn (deny-map k (namespaceAt s n) b) ∙ a .namespace-map k n)))
+
+  pub write-map-next : (k : Kind) (c name : ℕ) → After h (WriteMap k c name) text list (writeMapOf s k c name text)
+  write-map-next k c name =
+      write-map-case s (After h (WriteMap k c name) text list) (λ e i. nothing-happened s h a) k c name text (λ p ls e w m. mapped-next name p e k ls m w)
+
+  pub write-setgroups-next : (c name : ℕ) → After h (WriteSetgroups c name) text list (writeSetgroupsOf s c name text)
+  write-setgroups-next c name =
+      write-setgroups-case s (After h (WriteSetgroups c name) text list) (λ e i. nothing-happened s h a) c name text (λ p b e. set-next name p e b)

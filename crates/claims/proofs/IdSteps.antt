@@ -1,0 +1,200 @@
+-- ID changes, setgroups and drop: what each leaves agrees with its history, and it was allowed. Assumes nothing.
+use Prim.Native.Nat.{ℕ, suc, _-_, _<_, _^_}
+use mathlib.Core.Path.{_≡_, refl, sym, ap, _∙_, subst}
+use mathlib.Core.Bool.{cond, _&&_}
+use mathlib.Core.List.{List, [], _∷_, map}
+use mathlib.Core.Option.{Option, none, some}
+use native.Mathlib.Omega.{arith}
+use lib.Dec.{eqb}
+use lib.ListN.{length, take, replicate}
+use lib.Seq.{take-append-seam}
+use Rattle.idmap.specs.declared.Translated.{Translated}
+use Rattle.idmap.specs.declared.Translated.the-variants.{Id, Unmapped}
+use Rattle.idmap.specs.Text.{consOf, allOf}
+use Rattle.records.specs.declared.Kind.{Kind}
+use Rattle.records.specs.declared.Kind.the-variants.{User, Group}
+use Rattle.records.specs.declared.Ids.{Ids}
+use Rattle.records.specs.declared.Process.{Process}
+use Rattle.records.specs.Records.{idsIn}
+use Rattle.tables.specs.declared.find.Found.the-variants.{At}
+use Rattle.tables.specs.Tables.{State, processAt, putProcess}
+use Rattle.tables.specs.Find.{processNamed}
+use Rattle.credentials.specs.Calls.{chosen, withUsers, withGroups, withIds, setIdsOf, toOption, groupList, withList, kernelGroups, setGroupsOf, withSets, dropOf}
+use Rattle.calls.specs.declared.Call.the-variants.{SetIds, SetGroups, Drop}
+use Rattle.claims.specs.Events.{Event, other, changed, grouped}
+use Rattle.claims.specs.Words.{Held, isProcess, isNamespace, placeOf, parentOf, levelOf, mapOf, heldOf, standsFor, chosenOf, changedIds, orNoId, sameKind}
+use Rattle.claims.specs.History.{AllSmall}
+use Rattle.claims.specs.Agreement.{moreIn, heldIn, Agreed}
+use Rattle.claims.proofs.Allowed.{SoundAt, AllStand}
+use Rattle.claims.proofs.Stores.{named, process-in-range, same-number}
+use Rattle.claims.proofs.Agree.{picked-same, stores-process, keeps-process, caller-is, caller-live, caller-place, caller-ids, stands-agrees}
+use Rattle.claims.proofs.Kept.{same-kind}
+use Rattle.prelude.proofs.Tests.{by-test}
+use Rattle.claims.proofs.Steps.{Next, nothing-happened, After}
+use Rattle.claims.proofs.Cases.{set-ids-case, set-groups-case, drop-case}
+
+-- ---- a process with other IDs is as before otherwise
+ids-live : (s : State) (k : Kind) (p : Process) (new : Ids) → withIds s k p new .live ≡ p .live
+unfolding withUsers withGroups
+ids-live s User p new = refl
+ids-live s Group p new = refl
+
+ids-place : (s : State) (k : Kind) (p : Process) (new : Ids) → withIds s k p new .namespace ≡ p .namespace
+unfolding withUsers withGroups
+ids-place s User p new = refl
+ids-place s Group p new = refl
+
+-- what it carries: the new IDs of that kind
+ids-held : (j k : Kind) (s : State) (p : Process) (new : Ids) → heldIn j (withIds s k p new) ≡ cond (sameKind j k) (record { three = new; more = moreIn j p }) (heldIn j p)
+unfolding withUsers withGroups
+ids-held User User s p new = refl
+ids-held User Group s p new = refl
+ids-held Group User s p new = refl
+ids-held Group Group s p new = refl
+
+sets-ids : (k : Kind) (p : Process) (permitted effective : ℕ) → heldIn k (withSets p permitted effective) ≡ heldIn k p
+unfolding withSets
+sets-ids User p permitted effective = refl
+sets-ids Group p permitted effective = refl
+
+-- ---- the groups of a list, each mapped
+no-some : {A : Type 0} {x : A} → none ≡ some x → ⊥
+no-some e = let z : _≡_ {A = ℕ} 0 1 = cc in omega arith
+
+option-id : (t : Translated) (y : ℕ) → toOption t ≡ some y → t ≡ Id y
+option-id (Id x) y e = let f : x ≡ y = cc in ap Id f
+option-id Unmapped y e = absurd (no-some e)
+
+cons-some : (o : Option ℕ) (r : Option (List ℕ)) (l : List ℕ) → consOf o r ≡ some l → (y : ℕ) × (ys : List ℕ) × (o ≡ some y) × (r ≡ some ys) × (l ≡ y ∷ ys)
+unfolding consOf
+cons-some none r l e = absurd (no-some e)
+cons-some (some y) none l e = absurd (no-some e)
+cons-some (some y) (some ys) l e = (y, ys, refl, refl, cc)
+
+groups-are : (g : ℕ → Translated) (list l : List ℕ) → allOf (λ (x : ℕ). toOption (g x)) list ≡ some l → l ≡ map (λ (x : ℕ). orNoId (g x)) list
+unfolding allOf
+groups-are g [] l e = cc
+groups-are g (x ∷ list) l e =
+    let r = cons-some (toOption (g x)) (allOf (λ (x : ℕ). toOption (g x)) list) l e in
+    r .4
+    ∙ ap (λ (y : ℕ). y ∷ (r .1)) (sym (ap orNoId (option-id (g x) (r .0) (r .2))))
+    ∙ ap (λ (ys : List ℕ). orNoId (g x) ∷ ys) (groups-are g list (r .1) (r .3))
+
+groups-stand : (h : List Event) (n : ℕ) (list l : List ℕ) → AllSmall list → allOf (λ (x : ℕ). toOption (standsFor Group h n x)) list ≡ some l → AllStand h n list
+unfolding allOf AllSmall AllStand
+groups-stand h n [] l b e = tt
+groups-stand h n (x ∷ list) l b e =
+    let r = cons-some (toOption (standsFor Group h n x)) (allOf (λ (x : ℕ). toOption (standsFor Group h n x)) list) l e in
+    (b .0, (r .0, option-id (standsFor Group h n x) (r .0) (r .2)), groups-stand h n list (r .1) (b .1) (r .3))
+
+module _ (s : State) (h : List Event) (a : Agreed s h) (d : SoundAt h) (text list : List ℕ) where
+  module _ (c i : ℕ) (e : processNamed s c ≡ At i) where
+    -- one of the three: the tables choose as the history does
+    chosen-agrees : (k : Kind) (x old old′ : ℕ) → old ≡ old′ → chosen s k (processAt s i .namespace) x old ≡ chosenOf k h (placeOf h c) x old′
+    chosen-agrees k x old old′ f = rw (f, stands-agrees s h a d k (processAt s i .namespace) x, caller-place s h a c i e)
+
+    real-is : (k : Kind) → idsIn k (processAt s i) .real ≡ heldOf k h c .three .real
+    real-is k = ap (λ (m : Held). m .three .real) (caller-ids s h a c i e k)
+
+    effective-is : (k : Kind) → idsIn k (processAt s i) .effective ≡ heldOf k h c .three .effective
+    effective-is k = ap (λ (m : Held). m .three .effective) (caller-ids s h a c i e k)
+
+    saved-is : (k : Kind) → idsIn k (processAt s i) .saved ≡ heldOf k h c .three .saved
+    saved-is k = ap (λ (m : Held). m .three .saved) (caller-ids s h a c i e k)
+
+    module _ (k : Kind) (new : Ids) (x y z : ℕ)
+        (fx : chosen s k (processAt s i .namespace) (new .real) (idsIn k (processAt s i) .real) ≡ Id x)
+        (fy : chosen s k (processAt s i .namespace) (new .effective) (idsIn k (processAt s i) .effective) ≡ Id y)
+        (fz : chosen s k (processAt s i .namespace) (new .saved) (idsIn k (processAt s i) .saved) ≡ Id z) where
+      abbrev after : Ids
+      after = record { real = x; effective = y; saved = z }
+
+      stands-x : chosenOf k h (placeOf h c) (new .real) (heldOf k h c .three .real) ≡ Id x
+      stands-x = sym (chosen-agrees k (new .real) _ _ (real-is k)) ∙ fx
+
+      stands-y : chosenOf k h (placeOf h c) (new .effective) (heldOf k h c .three .effective) ≡ Id y
+      stands-y = sym (chosen-agrees k (new .effective) _ _ (effective-is k)) ∙ fy
+
+      stands-z : chosenOf k h (placeOf h c) (new .saved) (heldOf k h c .three .saved) ≡ Id z
+      stands-z = sym (chosen-agrees k (new .saved) _ _ (saved-is k)) ∙ fz
+
+      changed-is : changedIds k h (placeOf h c) new (heldOf k h c .three) ≡ after
+      changed-is = rw (stands-x, stands-y, stands-z)
+
+      more-is : moreIn k (processAt s i) ≡ heldOf k h c .more
+      more-is = ap (λ (m : Held). m .more) (caller-ids s h a c i e k)
+
+      held-is : _≡_ {A = Held} (record { three = after; more = moreIn k (processAt s i) }) (record { three = changedIds k h (placeOf h c) new (heldOf k h c .three); more = heldOf k h c .more })
+      held-is = rw (changed-is, more-is)
+
+      held-after : (j : Kind) (m : ℕ) → cond (eqb m i) (heldIn j (withIds s k (processAt s i) after)) (heldOf j h (suc m))
+          ≡ cond (sameKind j k && eqb (suc m) c) (record { three = changedIds j h (placeOf h c) new (heldOf j h c .three); more = heldOf j h c .more }) (heldOf j h (suc m))
+      held-after j m =
+          by-test (sameKind j k)
+          (λ t.
+          let f = subst (λ (r : Kind). _≡_ {A = Held} (record { three = after; more = moreIn r (processAt s i) }) (record { three = changedIds r h (placeOf h c) new (heldOf r h c .three); more = heldOf r h c .more })) (sym (same-kind j k t)) held-is in
+          rw (ids-held j k s (processAt s i) after, t, same-number m c i (caller-is s h a c i e), f))
+          (λ t. rw (ids-held j k s (processAt s i) after, t) (picked-same (λ (r : ℕ). heldOf j h (suc r)) m i (heldIn j (processAt s i)) (a .process-ids j i)))
+
+      changed-next : new .real < 2 ^ 32 → new .effective < 2 ^ 32 → new .saved < 2 ^ 32 → Next h (changed k c new) (putProcess s i (withIds s k (processAt s i) after))
+      unfolding isProcess isNamespace placeOf parentOf levelOf mapOf heldOf
+      changed-next u v w = record {
+        agree = stores-process s _ _ _ _ _ _ _ a i (withIds s k (processAt s i) after) (process-in-range s i (named s c i e .1)) _ _ _
+            (λ m. picked-same (λ (r : ℕ). isProcess h (suc r)) m i _ (ids-live s k (processAt s i) after ∙ a .process-live i))
+            (λ m. picked-same (λ (r : ℕ). placeOf h (suc r)) m i _ (ids-place s k (processAt s i) after ∙ a .process-place i))
+            held-after;
+        allowed = record {
+          caller = caller-live s h a c i e;
+          real = record { small = u; given = x; stands = stands-x };
+          effective = record { small = v; given = y; stands = stands-y };
+          saved = record { small = w; given = z; stands = stands-z };
+        };
+      }
+
+  pub set-ids-next : (k : Kind) (c : ℕ) (new : Ids) → new .real < 2 ^ 32 → new .effective < 2 ^ 32 → new .saved < 2 ^ 32 → After h (SetIds k c new) text list (setIdsOf s k c (new .real) (new .effective) (new .saved))
+  set-ids-next k c new u v w =
+      set-ids-case s (After h (SetIds k c new) text list) (λ e i. nothing-happened s h a) k c new
+      (λ i x y z e fx fy fz. changed-next c i e k new x y z fx fy fz u v w)
+
+  -- ---- drop
+  pub drop-next : (c permitted effective : ℕ) → After h (Drop c permitted effective) text list (dropOf s c permitted effective)
+  unfolding withSets
+  drop-next c permitted effective =
+      drop-case s (After h (Drop c permitted effective) text list) (λ e i. nothing-happened s h a) c permitted effective (λ i e.
+      nothing-happened _ h
+      (keeps-process s _ _ _ _ _ _ _ a i (withSets (processAt s i) permitted effective) (process-in-range s i (named s c i e .1)) refl refl
+      (λ k. sets-ids k (processAt s i) permitted effective)))
+
+  -- ---- setgroups
+  module _ (c i : ℕ) (e : processNamed s c ≡ At i) (l : List ℕ) (f : kernelGroups s (processAt s i .namespace) list ≡ some l) where
+    all-stand : allOf (λ (x : ℕ). toOption (standsFor Group h (placeOf h c) x)) list ≡ some l
+    unfolding kernelGroups
+    all-stand =
+        ap (λ (g : ℕ → Translated). allOf (λ (x : ℕ). toOption (g x)) list) (λ j x. (sym (ap (λ (n : ℕ). standsFor Group h n x) (caller-place s h a c i e)) ∙ sym (stands-agrees s h a d Group (processAt s i .namespace) x)) j)
+        ∙ f
+
+    listed : take (groupList l .count) (groupList l .ids) ≡ map (λ (x : ℕ). orNoId (standsFor Group h (placeOf h c) x)) list
+    unfolding groupList
+    listed = take-append-seam l (replicate (16 - length l) 0) ∙ groups-are (standsFor Group h (placeOf h c)) list l all-stand
+
+    groups-after : (k : Kind) (m : ℕ) → cond (eqb m i) (heldIn k (withList (processAt s i) (groupList l))) (heldOf k h (suc m))
+        ≡ cond (sameKind k Group && eqb (suc m) c) (record { three = heldOf k h c .three; more = map (λ (x : ℕ). orNoId (standsFor Group h (placeOf h c) x)) list }) (heldOf k h (suc m))
+    unfolding withList
+    groups-after User m = picked-same (λ (r : ℕ). heldOf User h (suc r)) m i (heldIn User (processAt s i)) (a .process-ids User i)
+    groups-after Group m =
+        let g : idsIn Group (processAt s i) ≡ heldOf Group h c .three = ap (λ (r : Held). r .three) (caller-ids s h a c i e Group) in
+        rw (same-number m c i (caller-is s h a c i e), listed, g)
+
+    grouped-next : AllSmall list → Next h (grouped c list) (putProcess s i (withList (processAt s i) (groupList l)))
+    unfolding isProcess isNamespace placeOf parentOf levelOf mapOf heldOf withList
+    grouped-next b = record {
+      agree = stores-process s _ _ _ _ _ _ _ a i (withList (processAt s i) (groupList l)) (process-in-range s i (named s c i e .1)) _ _ _
+          (λ m. picked-same (λ (r : ℕ). isProcess h (suc r)) m i _ (a .process-live i))
+          (λ m. picked-same (λ (r : ℕ). placeOf h (suc r)) m i _ (a .process-place i))
+          groups-after;
+      allowed = record { caller = caller-live s h a c i e; each = groups-stand h (placeOf h c) list l b all-stand };
+    }
+
+  pub set-groups-next : (c : ℕ) → AllSmall list → After h (SetGroups c) text list (setGroupsOf s c list)
+  set-groups-next c b =
+      set-groups-case s (After h (SetGroups c) text list) (λ e i. nothing-happened s h a) c list (λ i l e f. grouped-next c i e l f b)

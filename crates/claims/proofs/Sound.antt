@@ -1,0 +1,130 @@
+-- What is sound of processes, namespaces and maps, whatever gives them, and that each kind of event keeps it. Assumes nothing.
+use Prim.Native.Nat.{ℕ, suc, _≤_, _<_}
+use mathlib.Core.Path.{_≡_, refl, sym, ap, _∙_}
+use mathlib.Core.Bool.{Bool, true, false, cond, _&&_, true≢false}
+use mathlib.Core.List.{List}
+use mathlib.Core.Option.{Option, none, some}
+use native.Mathlib.Nat.{not-suc-le-zero}
+use native.Mathlib.Omega.{arith}
+use lib.Dec.{eqb, leb}
+use lib.ListN.{length}
+use borrow.Author.Tests.{ne-eqb, eqb-true}
+use Rattle.idmap.specs.declared.Line.{Line}
+use Rattle.idmap.specs.Good.{maxLines, goodOf}
+use Rattle.idmap.specs.Text.{checked, mapLines, textLines}
+use Rattle.records.specs.declared.Kind.{Kind}
+use Rattle.prelude.proofs.Tests.{by-test, cond-elim, and-right}
+use Rattle.claims.specs.Words.{sameKind, orNone}
+use Rattle.claims.specs.Translation.{Pairs}
+
+-- isP, isN: which numbers are processes and namespaces; place, up, level: a process's namespace, a namespace's parent and level
+pub record Sound (isP isN : ℕ → Bool) (place up level : ℕ → ℕ) (maps : Kind → ℕ → Option (List Line)) : Type 0 where
+  pub no-zero : isP 0 ≡ false
+  pub root : isN 0 ≡ true
+  pub root-level : level 0 ≡ 0
+  pub placed : (p : ℕ) → isP p ≡ true → isN (place p) ≡ true
+  pub parented : (m : ℕ) → isN m ≡ true → isN (up m) ≡ true
+  pub levelled : (m : ℕ) → isN m ≡ true → (m ≡ 0 → ⊥) → level m ≡ suc (level (up m))
+  pub shallow : (m : ℕ) → level m ≤ 32
+  pub good : (k : Kind) (m : ℕ) → goodOf (orNone (maps k m)) ≡ true
+  pub made : (k : Kind) (m : ℕ) → isN m ≡ false → maps k m ≡ none
+
+-- a number that is one is not a number that is none
+pub differ : (is : ℕ → Bool) (m n : ℕ) → is m ≡ true → is n ≡ false → m ≡ n → ⊥
+differ is m n t f e = true≢false (sym t ∙ ap is e ∙ f)
+
+-- the lines that a map's text has are good
+checked-good : (ls : Option (List Line)) → goodOf (orNone (checked ls)) ≡ true
+unfolding checked goodOf
+checked-good none = refl
+checked-good (some ls) =
+    by-test (leb 1 (length ls) && (leb (length ls) maxLines && goodOf ls))
+    (λ t. rw t (and-right (leb (length ls) maxLines) (goodOf ls) (and-right (leb 1 (length ls)) (leb (length ls) maxLines && goodOf ls) t)))
+    (λ t. rw t)
+
+pub map-lines-good : (text : List ℕ) → goodOf (orNone (mapLines text)) ≡ true
+unfolding mapLines
+map-lines-good text = checked-good (textLines text)
+
+module _ (isP isN : ℕ → Bool) (place up level : ℕ → ℕ) (maps : Kind → ℕ → Option (List Line)) (s : Sound isP isN place up level maps) where
+  -- a namespace that has a line is one, so its level is one above its parent's
+  no-pairs : (k : Kind) (m x z : ℕ) → isN m ≡ false → Pairs (orNone (maps k m)) x z → ⊥
+  no-pairs k m x z f p = not-suc-le-zero (rw (s .made k m f) at (p .in-range))
+
+  pub deep : (k : Kind) (m x z : ℕ) → (m ≡ 0 → ⊥) → Pairs (orNone (maps k m)) x z → level m ≡ suc (level (up m))
+  deep k m x z h p = by-test (isN m) (λ t. s .levelled m t h) (λ t. absurd (no-pairs k m x z t p))
+
+  -- process c goes to namespace n
+  pub moves : (c n : ℕ) → isN n ≡ true → Sound isP isN (λ (p : ℕ). cond (eqb p c) n (place p)) up level maps
+  moves c n t = record {
+    no-zero = s .no-zero;
+    root = s .root;
+    root-level = s .root-level;
+    placed = λ p e. cond-elim (λ (m : ℕ). isN m ≡ true) (eqb p c) t (s .placed p e);
+    parented = s .parented;
+    levelled = s .levelled;
+    shallow = s .shallow;
+    good = s .good;
+    made = s .made;
+  }
+
+  -- process q begins in namespace n
+  pub begins : (q n : ℕ) → (q ≡ 0 → ⊥) → isN n ≡ true → Sound (λ (p : ℕ). cond (eqb p q) true (isP p)) isN (λ (p : ℕ). cond (eqb p q) n (place p)) up level maps
+  begins q n h t = record {
+    no-zero = let e : eqb 0 q ≡ false = ne-eqb 0 q (λ r. h (sym r)) in rw e (s .no-zero);
+    root = s .root;
+    root-level = s .root-level;
+    placed = λ p e. by-test (eqb p q) (λ r. rw r t) (λ r. rw r (s .placed p (sym (rw r) ∙ e)));
+    parented = s .parented;
+    levelled = s .levelled;
+    shallow = s .shallow;
+    good = s .good;
+    made = s .made;
+  }
+
+  -- namespace n is made, under namespace m
+  module _ (n m : ℕ) (new : isN n ≡ false) (old : isN m ≡ true) (high : level m < 32) where
+    abbrev isN′ : ℕ → Bool
+    isN′ i = cond (eqb i n) true (isN i)
+
+    kept : (i : ℕ) → isN i ≡ true → isN′ i ≡ true
+    kept i t = cond-elim (λ (b : Bool). b ≡ true) (eqb i n) refl t
+
+    other-than : (i : ℕ) → isN i ≡ true → eqb i n ≡ false
+    other-than i t = ne-eqb i n (differ isN i n t new)
+
+    before : (i : ℕ) → eqb i n ≡ false → isN′ i ≡ true → isN i ≡ true
+    before i r t = sym (rw r) ∙ t
+
+    pub makes : Sound isP isN′ place (λ (i : ℕ). cond (eqb i n) m (up i)) (λ (i : ℕ). cond (eqb i n) (suc (level m)) (level i)) maps
+    makes = record {
+      no-zero = s .no-zero;
+      root = kept 0 (s .root);
+      root-level = rw (other-than 0 (s .root)) (s .root-level);
+      placed = λ p e. kept (place p) (s .placed p e);
+      parented = λ i t. by-test (eqb i n) (λ r. rw r (kept m old)) (λ r. rw r (kept (up i) (s .parented i (before i r t))));
+      levelled = λ i t h.
+          by-test (eqb i n)
+          (λ r. rw (r, other-than m old))
+          (λ r. let b = before i r t in rw (r, other-than (up i) (s .parented i b)) (s .levelled i b h));
+      shallow = λ i. cond-elim (λ (l : ℕ). l ≤ 32) (eqb i n) (omega arith) (s .shallow i);
+      good = s .good;
+      made = λ k i f. by-test (isN i) (λ t. absurd (true≢false (sym (kept i t) ∙ f))) (λ t. s .made k i t);
+    }
+
+  -- the map of kind j of namespace n is written
+  pub writes : (j : Kind) (n : ℕ) (text : List ℕ) → isN n ≡ true → Sound isP isN place up level (λ (k : Kind) (m : ℕ). cond (sameKind k j && eqb m n) (mapLines text) (maps k m))
+  writes j n text t = record {
+    no-zero = s .no-zero;
+    root = s .root;
+    root-level = s .root-level;
+    placed = s .placed;
+    parented = s .parented;
+    levelled = s .levelled;
+    shallow = s .shallow;
+    good = λ k m. cond-elim (λ (r : Option (List Line)). goodOf (orNone r) ≡ true) (sameKind k j && eqb m n) (map-lines-good text) (s .good k m);
+    made = λ k m f.
+        by-test (sameKind k j && eqb m n)
+        (λ r. absurd (differ isN n m t f (sym (eqb-true m n (and-right (sameKind k j) (eqb m n) r)))))
+        (λ r. rw r (s .made k m f));
+  }

@@ -1,0 +1,78 @@
+-- The initial tables agree with the history in which nothing has happened. Assumes nothing.
+use Prim.Native.Nat.{ℕ, zero, suc}
+use mathlib.Core.Path.{_≡_, refl, sym, ap, _∙_}
+use mathlib.Core.Bool.{Bool, true, false, cond}
+use mathlib.Core.List.{[]}
+use mathlib.Core.Option.{none}
+use native.Mathlib.Omega.{arith}
+use lib.Dec.{eqb}
+use lib.ListN.{getD, replicate, length-replicate}
+use Rattle.records.specs.declared.Kind.{Kind}
+use Rattle.records.specs.declared.Kind.the-variants.{User, Group}
+use Rattle.records.specs.declared.Process.{Process}
+use Rattle.records.specs.declared.Namespace.{Namespace}
+use Rattle.records.specs.Records.{freeProcess, freeNamespace, mapIn}
+use Rattle.tables.specs.Tables.{State, processAt, namespaceAt, putProcess, firstProcess, rootNamespace, initialTables, allZero}
+use Rattle.prelude.proofs.Tests.{by-test}
+use Rattle.claims.specs.Words.{isProcess, isNamespace, placeOf, parentOf, levelOf, mapOf, heldOf}
+use Rattle.claims.specs.Agreement.{heldIn, writtenIn, Agrees, Agreed}
+use Rattle.claims.proofs.Stores.{next-number}
+use Rattle.claims.proofs.Agree.{stores-process, stores-namespace}
+
+all-same : {A : Type 0} (x : A) (n i : ℕ) → getD (replicate n x) i x ≡ x
+all-same x zero i = refl
+all-same x (suc n) zero = refl
+all-same x (suc n) (suc i) = all-same x n i
+
+abbrev empty : State
+empty = record { processes = replicate 128 freeProcess; namespaces = replicate 64 freeNamespace }
+
+free-ids : (k : Kind) → heldIn k freeProcess ≡ record { three = allZero; more = [] }
+free-ids User = refl
+free-ids Group = refl
+
+free-map : (k : Kind) → writtenIn (mapIn k freeNamespace) ≡ none
+free-map User = refl
+free-map Group = refl
+
+-- tables that are all free
+empty-agrees : Agrees empty (λ (i : ℕ). false) (λ (i : ℕ). false) (λ (i : ℕ). 0) (λ (i : ℕ). 0) (λ (i : ℕ). 0) (λ (k : Kind) (i : ℕ). none) (λ (k : Kind) (i : ℕ). record { three = allZero; more = [] })
+unfolding processAt namespaceAt
+empty-agrees = record {
+  process-places = length-replicate 128 freeProcess;
+  namespace-places = length-replicate 64 freeNamespace;
+  process-live = λ i. ap (λ (p : Process). p .live) (all-same freeProcess 128 i);
+  process-place = λ i. ap (λ (p : Process). p .namespace) (all-same freeProcess 128 i);
+  process-ids = λ k i. ap (heldIn k) (all-same freeProcess 128 i) ∙ free-ids k;
+  namespace-live = λ i. ap (λ (n : Namespace). n .live) (all-same freeNamespace 64 i);
+  namespace-parent = λ i. ap (λ (n : Namespace). n .parent) (all-same freeNamespace 64 i);
+  namespace-level = λ i. ap (λ (n : Namespace). n .level) (all-same freeNamespace 64 i);
+  namespace-map = λ k i. ap (λ (n : Namespace). writtenIn (mapIn k n)) (all-same freeNamespace 64 i) ∙ free-map k;
+}
+
+first-ids : (k : Kind) → heldIn k firstProcess ≡ record { three = allZero; more = [] }
+first-ids User = refl
+first-ids Group = refl
+
+root-map : (k : Kind) (i : ℕ) → cond (eqb i 0) (writtenIn (mapIn k rootNamespace)) none ≡ mapOf k [] i
+unfolding mapOf
+root-map User i = refl
+root-map Group i = refl
+
+is-it : (t : Bool) → cond t true false ≡ t
+is-it true = refl
+is-it false = refl
+
+pub start-agrees : Agreed initialTables []
+unfolding initialTables isProcess isNamespace placeOf parentOf levelOf heldOf
+start-agrees =
+    stores-namespace (putProcess empty 0 firstProcess) _ _ _ _ _ _ _
+    (stores-process empty _ _ _ _ _ _ _ empty-agrees 0 firstProcess (rw (length-replicate) (omega arith)) (isProcess []) (placeOf []) (λ (k : Kind). heldOf k [])
+    (λ i. is-it (eqb i 0) ∙ sym (next-number i 0))
+    (λ i. by-test (eqb i 0) (λ t. rw t) (λ t. rw t))
+    (λ k i. by-test (eqb i 0) (λ t. rw t (first-ids k)) (λ t. rw t)))
+    0 rootNamespace (rw (length-replicate) (omega arith)) _ _ _ _
+    (λ i. is-it (eqb i 0))
+    (λ i. by-test (eqb i 0) (λ t. rw t) (λ t. rw t))
+    (λ i. by-test (eqb i 0) (λ t. rw t) (λ t. rw t))
+    root-map

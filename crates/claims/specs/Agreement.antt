@@ -1,0 +1,53 @@
+-- The tables give what the history gives. Assumes nothing.
+use Prim.Native.Nat.{ℕ, suc}
+use mathlib.Core.Path.{_≡_}
+use mathlib.Core.Bool.{Bool}
+use mathlib.Core.List.{List, []}
+use mathlib.Core.Option.{Option, none, some}
+use lib.ListN.{length, take}
+use Rattle.idmap.specs.declared.Line.{Line}
+use Rattle.records.specs.declared.Kind.{Kind}
+use Rattle.records.specs.declared.Kind.the-variants.{User, Group}
+use Rattle.records.specs.declared.Process.{Process}
+use Rattle.records.specs.declared.MapState.{MapState}
+use Rattle.records.specs.declared.MapState.the-variants.{Unwritten, Written}
+use Rattle.records.specs.declared.IdMap.{IdMap}
+use Rattle.records.specs.Records.{idsIn, mapIn}
+use Rattle.tables.specs.Tables.{State, processAt, namespaceAt}
+use Rattle.claims.specs.Events.{Event}
+use Rattle.claims.specs.Words.{Held, isProcess, isNamespace, placeOf, parentOf, levelOf, mapOf, heldOf}
+
+-- the IDs of a kind in a process's record; only groups have supplementary ones
+abbrev pub moreIn : Kind → Process → List ℕ
+moreIn User p = []
+moreIn Group p = take (p .supplementary .count) (p .supplementary .ids)
+
+abbrev pub heldIn : Kind → Process → Held
+heldIn k p = record { three = idsIn k p; more = moreIn k p }
+
+-- a map's record: unwritten, or written with its lines
+abbrev pub linesIf : MapState → List Line → Option (List Line)
+linesIf Unwritten ls = none
+linesIf (Written n) ls = some (take n ls)
+
+abbrev pub writtenIn : IdMap → Option (List Line)
+writtenIn m = linesIf (m .state) (m .lines)
+
+-- tables of 128 places for processes and 64 for namespaces, in which process i + 1 stands at place i and namespace n at place n: exactly those
+-- are live that are processes and namespaces, each process has its namespace and its IDs of both kinds, each namespace its parent, its level and
+-- its maps of both kinds
+pub record Agrees (s : State) (isP isN : ℕ → Bool) (place up level : ℕ → ℕ) (maps : Kind → ℕ → Option (List Line)) (carries : Kind → ℕ → Held) : Type 0 where
+  pub process-places : length (s .processes) ≡ 128
+  pub namespace-places : length (s .namespaces) ≡ 64
+  pub process-live : (i : ℕ) → processAt s i .live ≡ isP (suc i)
+  pub process-place : (i : ℕ) → processAt s i .namespace ≡ place (suc i)
+  pub process-ids : (k : Kind) (i : ℕ) → heldIn k (processAt s i) ≡ carries k (suc i)
+  pub namespace-live : (n : ℕ) → namespaceAt s n .live ≡ isN n
+  pub namespace-parent : (n : ℕ) → namespaceAt s n .parent ≡ up n
+  pub namespace-level : (n : ℕ) → namespaceAt s n .level ≡ level n
+  pub namespace-map : (k : Kind) (n : ℕ) → writtenIn (mapIn k (namespaceAt s n)) ≡ maps k n
+
+-- the tables agree with a list of events
+abbrev pub Agreed : State → List Event → Type 0
+Agreed s h =
+    Agrees s (isProcess h) (isNamespace h) (placeOf h) (parentOf h) (levelOf h) (λ (k : Kind). mapOf k h) (λ (k : Kind). heldOf k h)

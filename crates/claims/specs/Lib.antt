@@ -1,0 +1,10 @@
+pub mod Events
+pub mod Words
+pub mod Translation
+pub mod TopLevel
+pub mod History
+pub mod Agreement
+pub mod Holds
+pub mod Bounds
+pub mod Refusals
+pub mod Scenarios
