@@ -1,0 +1,69 @@
+-- An exported call's promise is that of the call it stands for. Assumes nothing.
+use Prim.Native.Nat.{ℕ, _+_, _≤_, _<_}
+use mathlib.Core.Path.{_≡_, sym, ap, _∙_, subst}
+use mathlib.Core.Bool.{Bool, true, false}
+use mathlib.Core.List.{List}
+use native.Mathlib.Omega.{arith}
+use lib.ListN.{length, getD, set, length-set}
+use lib.Seq.{paste, paste-zero}
+use borrow.Author.Needs.{needs}
+use Rattle.prelude.specs.Parts.{putAt}
+use Rattle.prelude.proofs.Parts.{put-step, put-all}
+use Rattle.credentials.specs.declared.own.OwnIds.{OwnIds}
+use Rattle.tables.specs.declared.answer.Errno.{Errno}
+use Rattle.tables.specs.declared.answer.Answer.{Answer}
+use Rattle.tables.specs.declared.answer.Answer.the-variants.{Refused}
+use Rattle.tables.specs.Tables.{tablesOf}
+use Rattle.tables.specs.Reply.{Reply, replyOf, numberOf, Outcome, isRefused, Promise}
+use Rattle.mapping.specs.Calls.{ReadOutcome}
+use Rattle.exports.specs.Codes.{negated, codeOf, Coded, CodedRead, spaceAfter, idsRow, isOwn, CodedIds}
+
+-- a refusal's number
+pub refusal-is : (e f : Errno) (n : ℕ) → e ≡ f → n ≡ negated (numberOf f) → n ≡ negated (numberOf e)
+refusal-is e f n p q = rw p q
+
+pub code-refused : (a : Answer) (e : Errno) (n : ℕ) → a ≡ Refused e → n ≡ negated (numberOf e) → n ≡ codeOf (replyOf a)
+code-refused a e n p q = rw p q
+
+-- a call that may store
+pub coded : (a : Answer) (code : ℕ) (l l′ : List ℕ) (o : Outcome) → Promise a l l′ o → code ≡ codeOf (replyOf a) → Coded code l l′ o
+coded a code l l′ o p e = record {
+  answer = e ∙ ap (λ (x : Outcome). codeOf (x .reply)) (p .outcome);
+  tables = ap (λ (x : Outcome). x .tables) (p .outcome);
+  kept = λ t. p .kept (ap (λ (x : Outcome). isRefused (x .reply)) (p .outcome) ∙ t);
+}
+
+-- the namespace of a clone
+pub coded-space : (a : Answer) (old new : ℕ) (l l′ : List ℕ) (o : Outcome) → Promise a l l′ o → new ≡ spaceAfter (replyOf a) old → new ≡ spaceAfter (o .reply) old
+coded-space a old new l l′ o p e = e ∙ ap (λ (x : Outcome). spaceAfter (x .reply) old) (p .outcome)
+
+-- a read
+pub coded-read : (a : Answer) (code : ℕ) (after : List ℕ) (o : ReadOutcome) → _≡_ {A = ReadOutcome} (record { reply = replyOf a; buffer = after }) o → code ≡ codeOf (replyOf a) → CodedRead code after o
+coded-read a code after o p e = record { answer = e ∙ ap (λ (x : ReadOutcome). codeOf (x .reply)) p; buffer = ap (λ (x : ReadOutcome). x .buffer) p }
+
+-- a question
+pub coded-question : (a : Answer) (code : ℕ) (r : Reply) → replyOf a ≡ r → code ≡ codeOf (replyOf a) → code ≡ codeOf r
+coded-question a code r p e = e ∙ ap codeOf p
+
+-- own IDs
+module _ (own o : OwnIds) (t : Bool) (entry : List ℕ) where
+  pub ids-told : (exit row : List ℕ) → own ≡ o → t ≡ isOwn (own .answer) → t ≡ true → row ≡ idsRow (own .users) (own .groups) (own .supplementary) → exit ≡ putAt entry 0 row → CodedIds (own .supplementary .count) entry exit o
+  ids-told exit row p q r e f =
+      let g : isOwn (own .answer) ≡ true = sym q ∙ r in
+      subst (CodedIds (own .supplementary .count) entry exit) p (record { answer = rw g; words = rw g (f ∙ ap (putAt entry 0) e) })
+
+  pub ids-refused : (code : ℕ) → own ≡ o → t ≡ isOwn (own .answer) → t ≡ false → code ≡ codeOf (replyOf (own .answer)) → CodedIds code entry entry o
+  ids-refused code p q r e =
+      let g : isOwn (own .answer) ≡ false = sym q ∙ r in
+      subst (CodedIds code entry entry) p (record { answer = rw g e; words = rw g })
+
+-- one more word is in place at the start of a buffer
+pub put-first : (l vs t : List ℕ) (i : ℕ) → length vs ≤ length l → i < length vs → t ≡ paste l 0 vs i → set t i (getD vs i 0) ≡ paste l 0 vs (i + 1)
+put-first l vs t i fits h e = let z : 0 + i ≡ i = omega arith in rw z at (put-step l 0 vs t i (omega arith) h e)
+
+pub put-whole : (l vs t : List ℕ) (i : ℕ) → length vs ≤ length l → i ≤ length vs → length vs ≤ i → t ≡ paste l 0 vs i → t ≡ putAt l 0 vs
+put-whole l vs t i fits h k e = put-all l 0 vs t i (omega arith) h k e
+
+pub ruleset stores = (paste-zero, put-first, put-whole, length-set, needs)
+
+pub ruleset coding = (ids-told, ids-refused, refusal-is, code-refused, coded, coded-space, coded-read, coded-question, needs)
