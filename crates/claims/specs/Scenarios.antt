@@ -1,5 +1,5 @@
 -- The bench runs of document 01 that are marked P, as one table: the calls, the reply that each is to get, and the tables that they are to
--- leave. `scenarios-come-out` of proofs/Scenarios.antt proves all of it. Assumes nothing.
+-- leave. `scenarios-come-out` of proofs/Scenarios.antt proves that the whole table comes out. Assumes nothing.
 use Prim.Native.Nat.{ℕ, _-_}
 use Prim.Native.Char.{code}
 use Prim.Native.String.{String, [] as empty, _∷_ as _then_}
@@ -127,12 +127,12 @@ only Group ls Group = written ls
 abbrev pub setup : List Row
 setup = fork 1 ⇒ child 2 ∷ setIds Group 2 1000 ⇒ done ∷ setIds User 2 1000 ⇒ done ∷ unshare 2 ⇒ newNamespace 1 ∷ []
 
-abbrev pub two : List Process
-two = firstProcess ∷ process 1 1000 1000 fullSet ∷ []
+abbrev pub firstTwo : List Process
+firstTwo = firstProcess ∷ process 1 1000 1000 fullSet ∷ []
 
--- after the setup no call changes more than the maps of namespace 1
+-- a scenario whose calls after the setup change nothing but the maps of namespace 1
 abbrev pub scenario : List Row → (Kind → IdMap) → Scenario
-scenario rows maps = record { rows = setup ++ rows; processes = two; namespaces = rootNamespace ∷ madeBy1000 maps false ∷ [] }
+scenario rows maps = record { rows = setup ++ rows; processes = firstTwo; namespaces = rootNamespace ∷ madeBy1000 maps false ∷ [] }
 
 -- where document 01 does not say which map is written, the user map is and, in a scenario of its own, the group map
 abbrev pub eachKind : (Kind → List Scenario) → List Scenario
@@ -156,13 +156,14 @@ scenarios =
     ∷ [])
     -- P: 2 writes group map `0 1000 1`: 1. After "deny": done; setgroups then 1.
     ++ (record {
-      rows = setup ++ (writeMap Group 2 2 "0 1000 1" ⇒ refused 1
+      rows = setup ++ (
+          writeMap Group 2 2 "0 1000 1" ⇒ refused 1
           ∷ writeSetgroups 2 2 "deny" ⇒ done
           ∷ writeMap Group 2 2 "0 1000 1" ⇒ done
           ∷ setGroups 2 (0 ∷ []) ⇒ refused 1
           ∷ setGroups 2 [] ⇒ refused 1
           ∷ []);
-      processes = two;
+      processes = firstTwo;
       namespaces = rootNamespace ∷ madeBy1000 (only Group (line 0 1000 1 ∷ [])) true ∷ [];
     } ∷ [])
     -- P: 1 writes `0 100000 65536`: done. 65535 is 165535; 65536 is unmapped.
@@ -191,7 +192,8 @@ scenarios =
     ++ (scenario (unshare 2 ⇒ refused 1 ∷ []) unwritten ∷ [])
     -- P: 1 holds 21 in namespace 1; 2 does not in 0. A process in 0 with user 1000 and empty sets does in 1; with user 1001 not.
     ++ (record {
-      rows = setup ++ (capable 1 1 21 ⇒ yes′
+      rows = setup ++ (
+          capable 1 1 21 ⇒ yes′
           ∷ capable 2 0 21 ⇒ no′
           ∷ fork 1 ⇒ child 3
           ∷ setIds User 3 1000 ⇒ done
@@ -200,7 +202,7 @@ scenarios =
           ∷ setIds User 4 1001 ⇒ done
           ∷ capable 4 1 21 ⇒ no′
           ∷ []);
-      processes = two ++ (process 0 1000 0 emptySet ∷ process 0 1001 0 emptySet ∷ []);
+      processes = firstTwo ++ (process 0 1000 0 emptySet ∷ process 0 1001 0 emptySet ∷ []);
       namespaces = rootNamespace ∷ madeBy1000 unwritten false ∷ [];
     } ∷ [])
 
@@ -215,7 +217,7 @@ pub record Result : Type 0 where
   pub answers : List Answered
   pub tables : State
 
--- the answers that go with `runFrom`, of the same steps
+-- what is answered on the way of `runFrom`: the same steps, by the definition that the promise of `calls::answer` cites
 unfoldable pub answersFrom : State → List Request → List Answered
 answersFrom s [] = []
 answersFrom s (r ∷ rs) = record { reply = answerOf s r .reply; buffer = answerOf s r .buffer } ∷ answersFrom (answerOf s r .tables) rs
@@ -226,7 +228,7 @@ requests c = map (λ (row : Row). row .request) (c .rows)
 abbrev pub found : Scenario → Result
 found c = record { answers = answersFrom initialTables (requests c); tables = run (requests c) }
 
--- every place past the last process and past the last namespace is free
+-- of the 128 places for processes and the 64 for namespaces the others are free
 abbrev pub expected : Scenario → Result
 expected c = record {
   answers = map (λ (row : Row). record { reply = row .reply; buffer = row .buffer }) (c .rows);
@@ -236,9 +238,11 @@ expected c = record {
   };
 }
 
+-- each reply, each buffer and the tables at the end are as expected
 abbrev pub comesOut : Scenario → Type 0
 comesOut c = found c ≡ expected c
 
+-- so it is of each scenario of a list, and of the table
 unfoldable pub AllOf : List Scenario → Type 0
 AllOf [] = Unit {0}
 AllOf (c ∷ cs) = comesOut c × AllOf cs
