@@ -1,0 +1,288 @@
+/* Tests the header and the archive from C: scenarios of document 01, each call once, and refusals. */
+#include "oarhatchet.h"
+
+#include <stdio.h>
+#include <stdlib.h>
+#include <string.h>
+
+enum { SETGID = 6, SETUID = 7, SYS_ADMIN = 21 };
+#define FULL UINT64_C(0x1fffffffff)
+
+static uint64_t tables[OARHATCHET_TABLES];
+static uint64_t before[OARHATCHET_TABLES];
+static int checks;
+
+/* Compares an answer with what it has to be, and ends the program where they differ. */
+#define CHECK(answer, expected) check(__LINE__, #answer, (answer), (expected))
+
+static void check(int line, const char *call, int64_t answer, int64_t expected)
+{
+    if (answer != expected) {
+        fprintf(stderr, "test.c:%d: %s is %lld and not %lld\n", line, call, (long long)answer, (long long)expected);
+        exit(1);
+    }
+    checks++;
+}
+
+static int64_t write_uid_map(uint64_t caller, uint64_t process, const char *text)
+{
+    return oarhatchet_write_uid_map(tables, caller, process, (const uint8_t *)text, strlen(text));
+}
+
+static int64_t write_gid_map(uint64_t caller, uint64_t process, const char *text)
+{
+    return oarhatchet_write_gid_map(tables, caller, process, (const uint8_t *)text, strlen(text));
+}
+
+static int64_t write_setgroups(uint64_t caller, uint64_t process, const char *text)
+{
+    return oarhatchet_write_setgroups(tables, caller, process, (const uint8_t *)text, strlen(text));
+}
+
+/* Whether the buffer starts with the text and then has only filling. */
+static int64_t holds(const uint8_t *buffer, size_t length, const char *text)
+{
+    size_t i, end = strlen(text);
+    if (end > length || memcmp(buffer, text, end) != 0)
+        return 0;
+    for (i = end; i < length; i++)
+        if (buffer[i] != '.')
+            return 0;
+    return 1;
+}
+
+/* Process 2 is a fork of 1, set to group 1000 and then user 1000, and is in namespace 1, which it made. */
+static void start(void)
+{
+    oarhatchet_initial(tables);
+    CHECK(oarhatchet_fork(tables, 1), 2);
+    CHECK(oarhatchet_setresgid(tables, 2, 1000, 1000, 1000), 0);
+    CHECK(oarhatchet_setresuid(tables, 2, 1000, 1000, 1000), 0);
+    CHECK(oarhatchet_unshare(tables, 2), 1);
+}
+
+static void a_member_maps_itself_once(void)
+{
+    uint8_t buffer[40];
+    const char *text = "         0       1000          1\n";
+
+    start();
+    CHECK(write_uid_map(2, 2, "0 1000 1"), 0);
+    memset(buffer, '.', sizeof buffer);
+    CHECK(oarhatchet_read_uid_map(tables, 2, 2, buffer, 32), -OARHATCHET_ERANGE);
+    CHECK(holds(buffer, sizeof buffer, ""), 1);
+    CHECK(oarhatchet_read_uid_map(tables, 2, 2, buffer, sizeof buffer), 33);
+    CHECK(holds(buffer, sizeof buffer, text), 1);
+    CHECK(write_uid_map(2, 2, "0 1000 1"), -OARHATCHET_EPERM);
+}
+
+static void a_member_maps_nothing_else(void)
+{
+    start();
+    CHECK(write_uid_map(2, 2, "0 1000 2"), -OARHATCHET_EPERM);
+    CHECK(write_uid_map(2, 2, "5 1001 1"), -OARHATCHET_EPERM);
+}
+
+static void a_member_maps_its_group_after_deny(void)
+{
+    uint8_t buffer[40];
+    uint32_t list[1] = {0};
+
+    start();
+    CHECK(write_gid_map(2, 2, "0 1000 1"), -OARHATCHET_EPERM);
+    CHECK(write_setgroups(2, 2, "deny"), 0);
+    CHECK(write_gid_map(2, 2, "0 1000 1"), 0);
+    CHECK(oarhatchet_setgroups(tables, 2, list, 1), -OARHATCHET_EPERM);
+    memset(buffer, '.', sizeof buffer);
+    CHECK(oarhatchet_read_gid_map(tables, 2, 2, buffer, sizeof buffer), 33);
+    CHECK(holds(buffer, sizeof buffer, "         0       1000          1\n"), 1);
+    memset(buffer, '.', sizeof buffer);
+    CHECK(oarhatchet_read_setgroups(tables, 2, 2, buffer, sizeof buffer), 5);
+    CHECK(holds(buffer, sizeof buffer, "deny\n"), 1);
+    CHECK(oarhatchet_read_setgroups(tables, 1, 1, buffer, 5), -OARHATCHET_ERANGE);
+    CHECK(holds(buffer, sizeof buffer, "deny\n"), 1);
+}
+
+static void the_parent_maps_a_range(void)
+{
+    start();
+    CHECK(oarhatchet_translate_uid_out(tables, 1, 1, 65535), OARHATCHET_UNMAPPED);
+    CHECK(write_uid_map(1, 2, "0 100000 65536"), 0);
+    CHECK(oarhatchet_translate_uid_out(tables, 1, 1, 65535), 165535);
+    CHECK(oarhatchet_translate_uid_out(tables, 1, 1, 65536), OARHATCHET_UNMAPPED);
+    CHECK(oarhatchet_translate_uid_back(tables, 2, 1, 165535), 65535);
+    CHECK(oarhatchet_translate_uid_back(tables, 2, 1, 165536), OARHATCHET_UNMAPPED);
+    CHECK(oarhatchet_translate_uid_out(tables, 1, 0, UINT32_C(4294967294)), INT64_C(4294967294));
+    CHECK(oarhatchet_translate_gid_out(tables, 1, 1, 0), OARHATCHET_UNMAPPED);
+    CHECK(write_gid_map(1, 2, "0 5 3"), 0);
+    CHECK(oarhatchet_translate_gid_out(tables, 1, 1, 0), 5);
+    CHECK(oarhatchet_translate_gid_back(tables, 1, 1, 7), 2);
+    CHECK(oarhatchet_translate_gid_back(tables, 1, 1, 8), OARHATCHET_UNMAPPED);
+}
+
+static void the_text_of_a_map(void)
+{
+    static const char *const good[] = {
+        "0 0 4294967295", "0 100000 10\n10 100010 5", "0 7 1\n1 8 1\n2 9 1\n3 10 1\n4 11 1\n"};
+    static const char *const bad[] = {
+        "1 0 4294967295", "0 4294967295 1", "0 1000 0", "0 100000 10\n5 200000 10", "0 100000 10\n20 100009 5",
+        "0 7 1\n1 8 1\n2 9 1\n3 10 1\n4 11 1\n5 12 1\n", "", "0 0 1\n\n1 1 1"};
+    size_t i;
+
+    for (i = 0; i < sizeof good / sizeof *good; i++) {
+        start();
+        CHECK(write_uid_map(1, 2, good[i]), 0);
+    }
+    for (i = 0; i < sizeof bad / sizeof *bad; i++) {
+        start();
+        CHECK(write_uid_map(1, 2, bad[i]), -OARHATCHET_EINVAL);
+    }
+}
+
+static void an_unmapped_process_makes_no_namespace(void)
+{
+    uint64_t space = 77;
+
+    start();
+    CHECK(oarhatchet_unshare(tables, 2), -OARHATCHET_EPERM);
+    CHECK(oarhatchet_clone(tables, 2, &space), -OARHATCHET_EPERM);
+    CHECK((int64_t)space, 77);
+}
+
+static void the_owner_in_the_parent_holds_capabilities(void)
+{
+    start();
+    CHECK(oarhatchet_capable(tables, 1, 1, SYS_ADMIN), 1);
+    CHECK(oarhatchet_capable(tables, 2, 0, SYS_ADMIN), 0);
+    CHECK(oarhatchet_fork(tables, 1), 3);
+    CHECK(oarhatchet_setresuid(tables, 3, 1000, 1000, 1000), 0);
+    CHECK(oarhatchet_capable(tables, 3, 0, SYS_ADMIN), 0);
+    CHECK(oarhatchet_capable(tables, 3, 1, SYS_ADMIN), 1);
+    CHECK(oarhatchet_fork(tables, 1), 4);
+    CHECK(oarhatchet_setresuid(tables, 4, 1001, 1001, 1001), 0);
+    CHECK(oarhatchet_capable(tables, 4, 1, SYS_ADMIN), 0);
+    CHECK(oarhatchet_setns(tables, 3, 1), 0);
+    CHECK(oarhatchet_setns(tables, 3, 0), -OARHATCHET_EPERM);
+    CHECK(oarhatchet_setns(tables, 3, 1), -OARHATCHET_EINVAL);
+}
+
+static void levels_reach_32(void)
+{
+    uint64_t level, space = 0;
+
+    oarhatchet_initial(tables);
+    for (level = 1; level <= 32; level++) {
+        CHECK(oarhatchet_clone(tables, level, &space), (int64_t)level + 1);
+        CHECK((int64_t)space, (int64_t)level);
+        CHECK(write_uid_map(level, level + 1, "0 0 4294967295"), 0);
+        CHECK(write_gid_map(level, level + 1, "0 0 4294967295"), 0);
+    }
+    CHECK(oarhatchet_unshare(tables, 33), -OARHATCHET_EUSERS);
+    CHECK(oarhatchet_translate_uid_out(tables, 1, 32, 5), 5);
+}
+
+static void full_tables_refuse(void)
+{
+    uint64_t space = 0;
+    int64_t i;
+
+    oarhatchet_initial(tables);
+    for (i = 1; i < 64; i++)
+        CHECK(oarhatchet_clone(tables, 1, &space), i + 1);
+    CHECK((int64_t)space, 63);
+    CHECK(oarhatchet_unshare(tables, 1), -OARHATCHET_ENOSPC);
+    for (i = 65; i <= 128; i++)
+        CHECK(oarhatchet_fork(tables, 1), i);
+    CHECK(oarhatchet_fork(tables, 1), -OARHATCHET_EAGAIN);
+}
+
+static void own_ids_and_sets(void)
+{
+    uint32_t ids[OARHATCHET_IDS];
+    uint32_t list[17] = {7, 100003, 7};
+    size_t i;
+
+    oarhatchet_initial(tables);
+    CHECK(oarhatchet_setgroups(tables, 1, list, 17), -OARHATCHET_EINVAL);
+    CHECK(oarhatchet_setgroups(tables, 1, list, 3), 0);
+    CHECK(oarhatchet_setresgid(tables, 1, OARHATCHET_NO_ID, 5, OARHATCHET_NO_ID), 0);
+    CHECK(oarhatchet_setresuid(tables, 1, OARHATCHET_NO_ID, OARHATCHET_NO_ID, 9), 0);
+    memset(ids, 0xff, sizeof ids);
+    CHECK(oarhatchet_getids(tables, 9, ids), -OARHATCHET_ESRCH);
+    for (i = 0; i < OARHATCHET_IDS; i++)
+        CHECK(ids[i], INT64_C(0xffffffff));
+    CHECK(oarhatchet_getids(tables, 1, ids), 3);
+    CHECK(ids[2], 9);
+    CHECK(ids[4], 5);
+    CHECK(ids[6], 7);
+    CHECK(ids[7], 100003);
+    CHECK(ids[8], 7);
+    for (i = 9; i < OARHATCHET_IDS; i++)
+        CHECK(ids[i], 0);
+    CHECK(oarhatchet_setgroups(tables, 1, list, 0), 0);
+    CHECK(oarhatchet_getids(tables, 1, ids), 0);
+    CHECK(oarhatchet_capset(tables, 1, 1 << SETUID, 0), 0);
+    CHECK(oarhatchet_capable(tables, 1, 0, SETUID), 0);
+    CHECK(oarhatchet_capset(tables, 1, 1 << SETUID, 1 << SETUID), 0);
+    CHECK(oarhatchet_capable(tables, 1, 0, SETUID), 1);
+    CHECK(oarhatchet_capable(tables, 1, 0, SETGID), 0);
+    CHECK(oarhatchet_capable(tables, 1, 0, 37), -OARHATCHET_EINVAL);
+    CHECK(oarhatchet_capset(tables, 1, FULL, 0), -OARHATCHET_EPERM);
+    CHECK(oarhatchet_setresgid(tables, 1, 8, 8, 8), -OARHATCHET_EPERM);
+}
+
+/* A name that names nothing is refused by every call, and no word of the tables changes. */
+static void names_that_name_nothing(void)
+{
+    uint64_t names[] = {0, 3, 128, 129, UINT64_MAX};
+    uint8_t buffer[4] = {'.', '.', '.', '.'};
+    uint32_t ids[OARHATCHET_IDS] = {0};
+    uint64_t space = 77;
+    size_t i;
+
+    start();
+    memcpy(before, tables, sizeof tables);
+    for (i = 0; i < sizeof names / sizeof *names; i++) {
+        uint64_t name = names[i];
+        CHECK(oarhatchet_fork(tables, name), -OARHATCHET_ESRCH);
+        CHECK(oarhatchet_clone(tables, name, &space), -OARHATCHET_ESRCH);
+        CHECK(oarhatchet_unshare(tables, name), -OARHATCHET_ESRCH);
+        CHECK(oarhatchet_setns(tables, name, 1), -OARHATCHET_ESRCH);
+        CHECK(write_uid_map(name, 2, "0 1000 1"), -OARHATCHET_ESRCH);
+        CHECK(write_gid_map(1, name, "0 1000 1"), -OARHATCHET_ESRCH);
+        CHECK(write_setgroups(1, name, "deny"), -OARHATCHET_ESRCH);
+        CHECK(oarhatchet_read_uid_map(tables, name, 2, buffer, 4), -OARHATCHET_ESRCH);
+        CHECK(oarhatchet_read_gid_map(tables, 1, name, buffer, 4), -OARHATCHET_ESRCH);
+        CHECK(oarhatchet_read_setgroups(tables, 1, name, buffer, 4), -OARHATCHET_ESRCH);
+        CHECK(oarhatchet_setresuid(tables, name, 0, 0, 0), -OARHATCHET_ESRCH);
+        CHECK(oarhatchet_setresgid(tables, name, 0, 0, 0), -OARHATCHET_ESRCH);
+        CHECK(oarhatchet_setgroups(tables, name, ids, 0), -OARHATCHET_ESRCH);
+        CHECK(oarhatchet_capable(tables, name, 1, SYS_ADMIN), -OARHATCHET_ESRCH);
+        CHECK(oarhatchet_capset(tables, name, 0, 0), -OARHATCHET_ESRCH);
+        CHECK(oarhatchet_getids(tables, name, ids), -OARHATCHET_ESRCH);
+        CHECK(oarhatchet_translate_uid_out(tables, name, 1, 0), -OARHATCHET_ESRCH);
+    }
+    CHECK(oarhatchet_setns(tables, 1, 2), -OARHATCHET_ESRCH);
+    CHECK(oarhatchet_capable(tables, 1, 64, SYS_ADMIN), -OARHATCHET_ESRCH);
+    CHECK(oarhatchet_translate_gid_back(tables, 1, 2, 0), -OARHATCHET_ESRCH);
+    CHECK(memcmp(before, tables, sizeof tables), 0);
+    CHECK(holds(buffer, sizeof buffer, ""), 1);
+    CHECK((int64_t)space, 77);
+}
+
+int main(void)
+{
+    a_member_maps_itself_once();
+    a_member_maps_nothing_else();
+    a_member_maps_its_group_after_deny();
+    the_parent_maps_a_range();
+    the_text_of_a_map();
+    an_unmapped_process_makes_no_namespace();
+    the_owner_in_the_parent_holds_capabilities();
+    levels_reach_32();
+    full_tables_refuse();
+    own_ids_and_sets();
+    names_that_name_nothing();
+    printf("c: %d checks passed\n", checks);
+    return 0;
+}
