@@ -1,0 +1,159 @@
+//! The calls as the archive exports them. All the unsafe code is here.
+//!
+//! The declarations are those of `bindings/c/oarhatchet.h`. A function that takes references to single arrays and numbers alone
+//! asks nothing more of its caller, so it is declared safe. A slice crosses as its pointer and its length, so the functions that
+//! take one are unsafe here, and a safe function stands above each.
+//!
+//! The archive's code has no state of its own, keeps no pointer and writes nothing behind a pointer to const. References and
+//! slices are never null, and the borrow checker keeps what is lent to one call from overlapping.
+#![allow(unsafe_code)]
+
+/// The words of the tables.
+pub const WORDS: usize = 5952;
+pub type Words = [u64; WORDS];
+
+/// What the own-ID question writes: six IDs and sixteen places for groups.
+pub const IDS: usize = 22;
+
+unsafe extern "C" {
+    pub safe fn oarhatchet_initial(tables: &mut Words);
+    pub safe fn oarhatchet_fork(tables: &mut Words, caller: u64) -> i64;
+    pub safe fn oarhatchet_clone(tables: &mut Words, caller: u64, new_namespace: &mut u64) -> i64;
+    pub safe fn oarhatchet_unshare(tables: &mut Words, caller: u64) -> i64;
+    pub safe fn oarhatchet_setns(tables: &mut Words, caller: u64, target: u64) -> i64;
+    pub safe fn oarhatchet_setresuid(
+        tables: &mut Words,
+        caller: u64,
+        real: u32,
+        effective: u32,
+        saved: u32,
+    ) -> i64;
+    pub safe fn oarhatchet_setresgid(
+        tables: &mut Words,
+        caller: u64,
+        real: u32,
+        effective: u32,
+        saved: u32,
+    ) -> i64;
+    pub safe fn oarhatchet_capable(tables: &Words, caller: u64, target: u64, number: u32) -> i64;
+    pub safe fn oarhatchet_capset(
+        tables: &mut Words,
+        caller: u64,
+        permitted: u64,
+        effective: u64,
+    ) -> i64;
+    pub safe fn oarhatchet_getids(tables: &Words, caller: u64, ids: &mut [u32; IDS]) -> i64;
+    pub safe fn oarhatchet_translate_uid_out(
+        tables: &Words,
+        caller: u64,
+        target: u64,
+        id: u32,
+    ) -> i64;
+    pub safe fn oarhatchet_translate_uid_back(
+        tables: &Words,
+        caller: u64,
+        target: u64,
+        id: u32,
+    ) -> i64;
+    pub safe fn oarhatchet_translate_gid_out(
+        tables: &Words,
+        caller: u64,
+        target: u64,
+        id: u32,
+    ) -> i64;
+    pub safe fn oarhatchet_translate_gid_back(
+        tables: &Words,
+        caller: u64,
+        target: u64,
+        id: u32,
+    ) -> i64;
+
+    fn oarhatchet_write_uid_map(
+        tables: &mut Words,
+        caller: u64,
+        process: u64,
+        text: *const u8,
+        length: usize,
+    ) -> i64;
+    fn oarhatchet_write_gid_map(
+        tables: &mut Words,
+        caller: u64,
+        process: u64,
+        text: *const u8,
+        length: usize,
+    ) -> i64;
+    fn oarhatchet_write_setgroups(
+        tables: &mut Words,
+        caller: u64,
+        process: u64,
+        text: *const u8,
+        length: usize,
+    ) -> i64;
+    fn oarhatchet_read_uid_map(
+        tables: &Words,
+        caller: u64,
+        process: u64,
+        buffer: *mut u8,
+        length: usize,
+    ) -> i64;
+    fn oarhatchet_read_gid_map(
+        tables: &Words,
+        caller: u64,
+        process: u64,
+        buffer: *mut u8,
+        length: usize,
+    ) -> i64;
+    fn oarhatchet_read_setgroups(
+        tables: &Words,
+        caller: u64,
+        process: u64,
+        buffer: *mut u8,
+        length: usize,
+    ) -> i64;
+    fn oarhatchet_setgroups(tables: &mut Words, caller: u64, list: *const u32, count: usize)
+        -> i64;
+}
+
+/// A call that is lent a text.
+type Write = unsafe extern "C" fn(&mut Words, u64, u64, *const u8, usize) -> i64;
+/// A call that is lent a buffer.
+type Read = unsafe extern "C" fn(&Words, u64, u64, *mut u8, usize) -> i64;
+
+fn write(call: Write, tables: &mut Words, caller: u64, process: u64, text: &[u8]) -> i64 {
+    // SAFETY: the pointer is valid for reads of the length, and nothing else borrows the tables.
+    unsafe { call(tables, caller, process, text.as_ptr(), text.len()) }
+}
+
+fn read(call: Read, tables: &Words, caller: u64, process: u64, buffer: &mut [u8]) -> i64 {
+    // SAFETY: the pointer is valid for reads and writes of the length, and the buffer is apart from the tables.
+    unsafe { call(tables, caller, process, buffer.as_mut_ptr(), buffer.len()) }
+}
+
+pub fn write_uid_map(tables: &mut Words, caller: u64, process: u64, text: &[u8]) -> i64 {
+    write(oarhatchet_write_uid_map, tables, caller, process, text)
+}
+
+pub fn write_gid_map(tables: &mut Words, caller: u64, process: u64, text: &[u8]) -> i64 {
+    write(oarhatchet_write_gid_map, tables, caller, process, text)
+}
+
+pub fn write_setgroups(tables: &mut Words, caller: u64, process: u64, text: &[u8]) -> i64 {
+    write(oarhatchet_write_setgroups, tables, caller, process, text)
+}
+
+pub fn read_uid_map(tables: &Words, caller: u64, process: u64, buffer: &mut [u8]) -> i64 {
+    read(oarhatchet_read_uid_map, tables, caller, process, buffer)
+}
+
+pub fn read_gid_map(tables: &Words, caller: u64, process: u64, buffer: &mut [u8]) -> i64 {
+    read(oarhatchet_read_gid_map, tables, caller, process, buffer)
+}
+
+pub fn read_setgroups(tables: &Words, caller: u64, process: u64, buffer: &mut [u8]) -> i64 {
+    read(oarhatchet_read_setgroups, tables, caller, process, buffer)
+}
+
+pub fn setgroups(tables: &mut Words, caller: u64, list: &[u32]) -> i64 {
+    // SAFETY: the pointer is valid for reads of the count, and nothing else borrows the tables.
+    unsafe { oarhatchet_setgroups(tables, caller, list.as_ptr(), list.len()) }
+}
