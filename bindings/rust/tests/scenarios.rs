@@ -1,0 +1,216 @@
+//! The scenarios of document 01 (its bench runs), in its order, and what the types of the bindings promise.
+
+use oarhatchet::Errno::{Eagain, Einval, Enospc, Eperm, Erange, Esrch, Eusers};
+use oarhatchet::{Child, Errno, Kind, Tables, Way};
+
+const SETGID: u32 = 6;
+const SETUID: u32 = 7;
+const SYS_ADMIN: u32 = 21;
+
+/// Process 2 is a fork of 1, set to group 1000 and then user 1000, and is in namespace 1, which it made.
+fn member() -> Tables {
+    let mut tables = Tables::new();
+    assert_eq!(tables.fork(1), Ok(2));
+    assert_eq!(tables.set_ids(Kind::Group, 2, [1000; 3]), Ok(()));
+    assert_eq!(tables.set_ids(Kind::User, 2, [1000; 3]), Ok(()));
+    assert_eq!(tables.unshare(2), Ok(1));
+    tables
+}
+
+/// What a first write of the user map of namespace 1 answers.
+fn first_write(caller: u64, text: &str) -> Result<(), Errno> {
+    member().write_map(Kind::User, caller, 2, text.as_bytes())
+}
+
+#[test]
+fn a_member_maps_itself_once() {
+    let mut tables = member();
+    assert_eq!(tables.write_map(Kind::User, 2, 2, b"0 1000 1"), Ok(()));
+    let text = "         0       1000          1\n";
+    assert_eq!(tables.map_text(Kind::User, 2, 2).as_deref(), Ok(text));
+    let mut buffer = [b'.'; 40];
+    assert_eq!(tables.read_map(Kind::User, 2, 2, &mut buffer), Ok(33));
+    assert_eq!(&buffer[..33], text.as_bytes());
+    assert_eq!(&buffer[33..], b".......");
+    assert_eq!(tables.write_map(Kind::User, 2, 2, b"0 1000 1"), Err(Eperm));
+}
+
+#[test]
+fn a_member_maps_nothing_else() {
+    assert_eq!(first_write(2, "0 1000 2"), Err(Eperm));
+    assert_eq!(first_write(2, "5 1001 1"), Err(Eperm));
+}
+
+#[test]
+fn a_member_maps_its_group_after_deny() {
+    let mut tables = member();
+    assert_eq!(tables.write_map(Kind::Group, 2, 2, b"0 1000 1"), Err(Eperm));
+    assert_eq!(tables.write_setgroups(2, 2, b"deny"), Ok(()));
+    assert_eq!(tables.write_map(Kind::Group, 2, 2, b"0 1000 1"), Ok(()));
+    assert_eq!(tables.setgroups(2, &[0]), Err(Eperm));
+    assert_eq!(tables.setgroups(2, &[]), Err(Eperm));
+    assert_eq!(tables.setgroups_text(2, 2).as_deref(), Ok("deny\n"));
+}
+
+#[test]
+fn the_parent_maps_a_range() {
+    let mut tables = member();
+    assert_eq!(tables.write_map(Kind::User, 1, 2, b"0 100000 65536"), Ok(()));
+    assert_eq!(tables.translate(Kind::User, Way::Out, 1, 1, 65535), Ok(Some(165535)));
+    assert_eq!(tables.translate(Kind::User, Way::Out, 1, 1, 65536), Ok(None));
+    assert_eq!(tables.translate(Kind::User, Way::Back, 1, 1, 165535), Ok(Some(65535)));
+    assert_eq!(tables.translate(Kind::User, Way::Back, 1, 1, 165536), Ok(None));
+    assert_eq!(tables.translate(Kind::Group, Way::Out, 1, 1, 65535), Ok(None));
+}
+
+#[test]
+fn the_parent_maps_up_to_the_top() {
+    assert_eq!(first_write(1, "0 0 4294967295"), Ok(()));
+    for text in ["1 0 4294967295", "0 4294967295 1", "0 1000 0"] {
+        assert_eq!(first_write(1, text), Err(Einval), "{text}");
+    }
+}
+
+#[test]
+fn lines_do_not_overlap() {
+    assert_eq!(first_write(1, "0 100000 10\n10 100010 5"), Ok(()));
+    assert_eq!(first_write(1, "0 100000 10\n5 200000 10"), Err(Einval));
+    assert_eq!(first_write(1, "0 100000 10\n20 100009 5"), Err(Einval));
+}
+
+#[test]
+fn an_unmapped_process_makes_no_namespace() {
+    assert_eq!(member().unshare(2), Err(Eperm));
+    assert_eq!(member().clone_process(2), Err(Eperm));
+}
+
+#[test]
+fn the_owner_in_the_parent_holds_capabilities_and_joins() {
+    let mut tables = member();
+    assert_eq!(tables.capable(1, 1, SYS_ADMIN), Ok(true));
+    assert_eq!(tables.capable(2, 0, SYS_ADMIN), Ok(false));
+    // Processes 3 and 4 are in namespace 0 with empty sets, 3 with the owner's user ID and 4 with another.
+    for (process, user) in [(3, 1000), (4, 1001)] {
+        assert_eq!(tables.fork(1), Ok(process));
+        assert_eq!(tables.set_ids(Kind::User, process, [user; 3]), Ok(()));
+        assert_eq!(tables.capset(process, 0, 1), Err(Eperm));
+        assert_eq!(tables.capable(process, 0, SYS_ADMIN), Ok(false));
+    }
+    assert_eq!(tables.capable(3, 1, SYS_ADMIN), Ok(true));
+    assert_eq!(tables.capable(4, 1, SYS_ADMIN), Ok(false));
+    assert_eq!(tables.setns(3, 1), Ok(()));
+    assert_eq!(tables.setns(3, 0), Err(Eperm));
+    assert_eq!(tables.setns(3, 1), Err(Einval));
+}
+
+#[test]
+fn a_map_has_one_to_five_lines() {
+    let lines = |count: u32| (0..count).map(|i| format!("{i} {} 1\n", i + 7)).collect::<String>();
+    assert_eq!(first_write(1, &lines(5)), Ok(()));
+    assert_eq!(first_write(1, &lines(6)), Err(Einval));
+    assert_eq!(first_write(1, ""), Err(Einval));
+    assert_eq!(first_write(1, "0 0 1\n\n1 1 1"), Err(Einval));
+}
+
+/// Goes down from process 1 with full maps; the process at each level has the next number.
+fn descend(levels: u64) -> Tables {
+    let mut tables = Tables::new();
+    for level in 1..=levels {
+        let child = Child { process: level + 1, namespace: level };
+        assert_eq!(tables.clone_process(level), Ok(child));
+        for kind in [Kind::User, Kind::Group] {
+            assert_eq!(tables.write_map(kind, level, level + 1, b"0 0 4294967295"), Ok(()));
+        }
+    }
+    tables
+}
+
+#[test]
+fn levels_reach_32() {
+    assert_eq!(descend(31).unshare(32), Ok(32));
+    assert_eq!(descend(31).clone_process(32), Ok(Child { process: 33, namespace: 32 }));
+    assert_eq!(descend(32).unshare(33), Err(Eusers));
+    assert_eq!(descend(32).clone_process(33), Err(Eusers));
+}
+
+#[test]
+fn full_tables_refuse() {
+    let mut tables = Tables::new();
+    for namespace in 1..64 {
+        assert_eq!(tables.clone_process(1), Ok(Child { process: namespace + 1, namespace }));
+    }
+    assert_eq!(tables.clone_process(1), Err(Enospc));
+    for child in 65..=128 {
+        assert_eq!(tables.fork(1), Ok(child));
+    }
+    assert_eq!(tables.fork(1), Err(Eagain));
+}
+
+#[test]
+fn own_ids_show_what_is_mapped() {
+    let mut tables = Tables::new();
+    assert_eq!(tables.setgroups(1, &[7, 100003]), Ok(()));
+    assert_eq!(tables.clone_process(1), Ok(Child { process: 2, namespace: 1 }));
+    assert_eq!(tables.write_map(Kind::User, 1, 2, b"0 0 1"), Ok(()));
+    assert_eq!(tables.write_map(Kind::Group, 1, 2, b"0 100000 10"), Ok(()));
+    let ids = tables.getids(2).expect("process 2 exists");
+    assert_eq!((ids.users, ids.groups), ([0; 3], [65534; 3]));
+    assert_eq!(ids.supplementary, [65534, 3]);
+    assert_eq!(tables.setgroups(2, &[9; 16]), Ok(()));
+    assert_eq!(tables.getids(2).expect("process 2 exists").supplementary, [9; 16]);
+}
+
+#[test]
+fn drops_never_add() {
+    let mut tables = Tables::new();
+    assert_eq!(tables.capset(1, 1 << SETUID, 1 << SETUID), Ok(()));
+    assert_eq!(tables.capset(1, 1 << SETGID, 0), Err(Eperm));
+    assert_eq!(tables.capable(1, 0, SETUID), Ok(true));
+    assert_eq!(tables.capable(1, 0, SETGID), Ok(false));
+    assert_eq!(tables.capable(1, 0, 37), Err(Einval));
+}
+
+#[test]
+fn empty_slices_are_lent() {
+    let mut tables = member();
+    assert_eq!(tables.read_map(Kind::User, 1, 2, &mut []), Ok(0));
+    assert_eq!(tables.read_map(Kind::User, 1, 1, &mut []), Err(Erange));
+    assert_eq!(tables.read_setgroups(1, 2, &mut []), Err(Erange));
+    assert_eq!(tables.write_map(Kind::User, 1, 2, &[]), Err(Einval));
+    assert_eq!(tables.write_setgroups(1, 2, &[]), Err(Einval));
+    assert_eq!(tables.setgroups(1, &[]), Ok(()));
+    assert_eq!(tables.fork(u64::MAX), Err(Esrch));
+}
+
+#[test]
+fn a_clone_of_the_tables_is_apart() {
+    let mut tables = member();
+    let mut other = tables.clone();
+    assert_eq!(tables.fork(1), Ok(3));
+    assert_eq!(other.fork(1), Ok(3));
+    assert_eq!(other.fork(1), Ok(4));
+    other.clone_from(&Tables::default());
+    assert_eq!(other.fork(1), Ok(2));
+    assert_eq!(tables.fork(1), Ok(4));
+}
+
+#[test]
+fn tables_go_to_other_threads() {
+    fn shared<T: Send + Sync>(value: T) -> T {
+        value
+    }
+    let tables = shared(member());
+    std::thread::scope(|scope| {
+        for _ in 0..2 {
+            scope.spawn(|| assert_eq!(tables.capable(1, 1, SYS_ADMIN), Ok(true)));
+        }
+    });
+}
+
+#[test]
+fn every_refusal_has_its_number() {
+    let numbers = Errno::ALL.map(Errno::number);
+    assert_eq!(numbers, [1, 3, 11, 22, 28, 34, 87]);
+    let error: Box<dyn std::error::Error> = Box::new(Eusers);
+    assert_eq!(error.to_string(), "EUSERS: level 33 asked for");
+}
