@@ -43,13 +43,15 @@ fn row(
         copy.make(call.clone());
     }
     let archive = time(&state.tables, calls.len(), call);
+    let archive = archive.unwrap_or_else(|| panic!("{name} is refused"));
     let reference = time(&state.reference, calls.len(), |tables, index| {
         let answer = tables.answer(&calls[index]);
         !matches!(black_box(answer), Answer::Refused(_) | Answer::ReadRefused { .. })
     });
     Row {
         name: name.to_string(),
-        archive: archive.unwrap_or_else(|| panic!("{name} is refused")),
+        archive,
+        range: (archive, archive),
         reference: reference.unwrap_or_else(|| panic!("{name} is refused")),
         kernel,
         goal,

@@ -36,7 +36,7 @@ const CAPABILITY_VERSION: u32 = 0x2008_0522;
 /// Calls in a batch, where a call can be repeated.
 const CALLS: usize = 200;
 /// Child processes of a measurement where a call is made once in each.
-const CHILDREN: usize = 101;
+const CHILDREN: usize = 41;
 
 /// Makes a child process, which ends with what `work` does in it; its number, or None where the kernel refuses.
 fn child(work: impl FnOnce()) -> Option<c_int> {

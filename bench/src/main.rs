@@ -8,7 +8,7 @@ mod state;
 mod table;
 
 /// Every call is measured in each round, so that what else the machine does for a moment touches few of a call's times.
-const ROUNDS: usize = 5;
+const ROUNDS: usize = 15;
 
 fn main() {
     let rounds: Vec<Vec<table::Row>> = (0..ROUNDS).map(|_| cases::rows()).collect();

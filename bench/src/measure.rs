@@ -4,9 +4,9 @@ use std::hint::black_box;
 use std::time::Instant;
 
 /// Batches of each measurement; the result is the median over them.
-const BATCHES: usize = 301;
+const BATCHES: usize = 101;
 /// Batches before them that are not counted.
-const WARM_UP: usize = 30;
+const WARM_UP: usize = 20;
 
 /// The middle of the samples, of which there is at least one.
 pub fn median(mut samples: Vec<f64>) -> f64 {

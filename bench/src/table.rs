@@ -29,6 +29,8 @@ impl Kernel {
 pub struct Row {
     pub name: String,
     pub archive: f64,
+    /// The archive's lowest and highest time of a round.
+    pub range: (f64, f64),
     pub reference: f64,
     pub kernel: Kernel,
     pub goal: f64,
@@ -42,6 +44,9 @@ impl Row {
         Row {
             name: rounds[0].name.clone(),
             archive: middle(|row| row.archive),
+            range: rounds.iter().fold(rounds[0].range, |(low, high), row| {
+                (low.min(row.range.0), high.max(row.range.1))
+            }),
             reference: middle(|row| row.reference),
             kernel: if kernel.is_empty() {
                 rounds[0].kernel
@@ -74,9 +79,10 @@ impl Row {
         let misses = self.misses();
         let verdict = if misses.is_empty() { "met".to_string() } else { misses.join(", ") };
         format!(
-            "| {:<52} | {:>7} | {:>9} | {:>7} | {:>9} | {:>7} | {:>5} | {} |",
+            "| {:<52} | {:>7} | {:>12} | {:>9} | {:>7} | {:>9} | {:>7} | {:>5} | {} |",
             self.name,
             number(self.archive),
+            format!("{} to {}", number(self.range.0), number(self.range.1)),
             number(self.reference),
             number(self.reference / self.archive),
             kernel,
@@ -108,10 +114,13 @@ pub fn medians(rounds: &[Vec<Row>]) -> Vec<Row> {
 /// Prints the table and how many rows miss a goal.
 pub fn print(rows: &[Row]) {
     println!(
-        "| {:<52} | {:>7} | {:>9} | {:>7} | {:>9} | {:>7} | {:>5} | result |",
-        "call", "archive", "reference", "times", "kernel", "times", "goal"
+        "| {:<52} | {:>7} | {:>12} | {:>9} | {:>7} | {:>9} | {:>7} | {:>5} | result |",
+        "call", "archive", "rounds", "reference", "times", "kernel", "times", "goal"
     );
-    println!("|{:-<54}|--------:|----------:|--------:|----------:|--------:|------:|---|", "");
+    println!(
+        "|{:-<54}|--------:|-------------:|----------:|--------:|----------:|--------:|------:|---|",
+        ""
+    );
     for row in rows {
         println!("{}", row.line());
     }
