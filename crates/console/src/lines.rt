@@ -216,14 +216,15 @@ pub fn answer_line(
     out: &mut [u8],
     at: usize,
 ) -> usize {
-    let start = tokens::skip_spaces(line, 0);
+    let w = tokens::word_at(line, 0);
+    let start = w.start;
+    let end = w.end;
     if start == line.len() {
         return at;
     }
     if line[0] == b'#' {
         return at;
     }
-    let end = tokens::word_end(line, start);
     let command = commands::command_of(&line[start..end]);
     match command {
         Command::Fresh => fresh_line(t, line, end, out, at),

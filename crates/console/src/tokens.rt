@@ -17,7 +17,7 @@ pub fn skip_spaces(line: &[u8], from: usize) -> usize
 }
 
 // The first place from `from` on that has a space, or the line's end.
-pub fn word_end(line: &[u8], from: usize) -> usize
+fn word_end(line: &[u8], from: usize) -> usize
     requires { ⌜ from ≤ length (now line) ⌝ }
     ensures { λ r. ⌜ from ≤ r ⌝ }
     ensures { λ r. ⌜ r ≤ length (now (line .entry)) ⌝ }
@@ -30,6 +30,24 @@ pub fn word_end(line: &[u8], from: usize) -> usize
         i += 1;
     }
     i
+}
+
+// Where a word stands: from `start` on, up to `end`. At the line's end both are its length.
+pub struct Word {
+    pub start: usize,
+    pub end: usize,
+}
+
+// The first word from `from` on.
+pub fn word_at(line: &[u8], from: usize) -> Word
+    ensures { λ r. ⌜ (r .start ≤ r .end) × (r .end ≤ length (now (line .entry))) ⌝ }
+{
+    let start = skip_spaces(line, from);
+    let end = word_end(line, start);
+    Word {
+        start: start,
+        end: end,
+    }
 }
 
 pub fn same(a: &[u8], b: &[u8]) -> bool {
@@ -123,15 +141,16 @@ pub enum Next {
 }
 
 pub fn next_token(line: &[u8], from: usize) -> Next {
-    let at = skip_spaces(line, from);
-    if at == line.len() {
+    let w = word_at(line, from);
+    let start = w.start;
+    let end = w.end;
+    if start == line.len() {
         return Next::End;
     }
-    if line[at] == b'"' {
-        return Next::Text(at + 1);
+    if line[start] == b'"' {
+        return Next::Text(start + 1);
     }
-    let end = word_end(line, at);
-    match read_number(&line[at..end]) {
+    match read_number(&line[start..end]) {
         Number::Value(n) => Next::Number(n, end),
         Number::Bad => Next::Bad,
     }
