@@ -1,7 +1,7 @@
 -- How a store keeps the tables in agreement with what a history gives. Assumes nothing.
 use Prim.Native.Nat.{ℕ, zero, suc, _<_}
 use mathlib.Core.Path.{_≡_, refl, sym, ap, _∙_}
-use mathlib.Core.Bool.{Bool, true, cond}
+use mathlib.Core.Bool.{Bool, true, cond, _&&_}
 use mathlib.Core.List.{List}
 use mathlib.Core.Option.{Option}
 use native.Mathlib.Omega.{arith}
@@ -12,6 +12,7 @@ use Rattle.idmap.specs.declared.Line.{Line}
 use Rattle.idmap.specs.declared.Translated.{Translated}
 use Rattle.idmap.specs.Lookup.{out, back}
 use Rattle.records.specs.declared.Kind.{Kind}
+use Rattle.records.specs.declared.Kind.the-variants.{User, Group}
 use Rattle.records.specs.declared.Process.{Process}
 use Rattle.records.specs.declared.Namespace.{Namespace}
 use Rattle.records.specs.declared.MapState.{MapState}
@@ -20,22 +21,22 @@ use Rattle.records.specs.declared.IdMap.{IdMap}
 use Rattle.records.specs.Records.{mapIn}
 use Rattle.records.specs.Records.{linesOf as mapLinesOf}
 use Rattle.tables.specs.declared.find.Found.the-variants.{At}
-use Rattle.tables.specs.Tables.{State, processAt, namespaceAt, putProcess, putNamespace}
+use Rattle.tables.specs.Tables.{State, processAt, namespaceAt, kernelMaps, kernelMapAt, putProcess, putNamespace, putKernelMap}
 use Rattle.tables.specs.Find.{processNamed}
-use Rattle.hierarchy.specs.Walks.{heightOf, itself, thenId, outIn, toKernel, backIn, fromKernel}
+use Rattle.hierarchy.specs.Walks.{kernelLines}
 use Rattle.prelude.proofs.Tests.{by-test}
 use Rattle.claims.specs.Events.{Event}
-use Rattle.claims.specs.Words.{Held, isProcess, placeOf, parentOf, levelOf, heldOf, orNone, linesOf, standsFor}
+use Rattle.claims.specs.Words.{Held, isProcess, placeOf, heldOf, sameKind}
 use Rattle.claims.specs.Translation.{outBy, backBy}
 use Rattle.claims.specs.Agreement.{heldIn, writtenIn, Agrees, Agreed}
 use Rattle.claims.proofs.Allowed.{SoundAt}
-use Rattle.claims.proofs.Stores.{cond-ap, read-process, read-namespace, named}
+use Rattle.claims.proofs.Stores.{cond-ap, read-process, read-namespace, read-kernel, named}
 
 -- where a test picks between what is equal, it does not matter
 pub picked-same : {A : Type 0} (f : ℕ → A) (i q : ℕ) (x : A) → x ≡ f q → cond (eqb i q) x (f i) ≡ f i
 picked-same f i q x e = by-test (eqb i q) (λ t. rw t (e ∙ ap f (sym (eqb-true i q t)))) (λ t. rw t)
 
-module _ (s : State) (isP isN : ℕ → Bool) (place up level : ℕ → ℕ) (maps : Kind → ℕ → Option (List Line)) (carries : Kind → ℕ → Held) (a : Agrees s isP isN place up level maps carries) where
+module _ (s : State) (isP isN : ℕ → Bool) (place up level : ℕ → ℕ) (maps : Kind → ℕ → Option (List Line)) (kernel : Kind → ℕ → List Line) (carries : Kind → ℕ → Held) (a : Agrees s isP isN place up level maps kernel carries) where
   -- process p is stored at place q
   module _ (q : ℕ) (p : Process) (h : q < length (s .processes)) where
     after-process : {A : Type 0} (f : Process → A) (g : ℕ → A) (i : ℕ) → f (processAt s i) ≡ g (suc i) → f (processAt (putProcess s q p) i) ≡ cond (eqb i q) (f p) (g (suc i))
@@ -45,11 +46,12 @@ module _ (s : State) (isP isN : ℕ → Bool) (place up level : ℕ → ℕ) (ma
         → ((i : ℕ) → cond (eqb i q) (p .live) (isP (suc i)) ≡ isP′ (suc i))
         → ((i : ℕ) → cond (eqb i q) (p .namespace) (place (suc i)) ≡ place′ (suc i))
         → ((k : Kind) (i : ℕ) → cond (eqb i q) (heldIn k p) (carries k (suc i)) ≡ carries′ k (suc i))
-        → Agrees (putProcess s q p) isP′ isN place′ up level maps carries′
-    unfolding namespaceAt
+        → Agrees (putProcess s q p) isP′ isN place′ up level maps kernel carries′
+    unfolding namespaceAt kernelMapAt
     stores-process isP′ place′ carries′ e f g = record {
       process-places = simp length-set (a .process-places);
       namespace-places = a .namespace-places;
+      kernel-places = a .kernel-places;
       process-live = λ i. after-process (λ (r : Process). r .live) isP i (a .process-live i) ∙ e i;
       process-place = λ i. after-process (λ (r : Process). r .namespace) place i (a .process-place i) ∙ f i;
       process-ids = λ k i. after-process (heldIn k) (carries k) i (a .process-ids k i) ∙ g k i;
@@ -57,10 +59,11 @@ module _ (s : State) (isP isN : ℕ → Bool) (place up level : ℕ → ℕ) (ma
       namespace-parent = a .namespace-parent;
       namespace-level = a .namespace-level;
       namespace-map = a .namespace-map;
+      namespace-kernel = a .namespace-kernel;
     }
 
     -- one that is as before in what a history tells
-    pub keeps-process : p .live ≡ processAt s q .live → p .namespace ≡ processAt s q .namespace → ((k : Kind) → heldIn k p ≡ heldIn k (processAt s q)) → Agrees (putProcess s q p) isP isN place up level maps carries
+    pub keeps-process : p .live ≡ processAt s q .live → p .namespace ≡ processAt s q .namespace → ((k : Kind) → heldIn k p ≡ heldIn k (processAt s q)) → Agrees (putProcess s q p) isP isN place up level maps kernel carries
     keeps-process e f g =
         stores-process isP place carries
         (λ i. picked-same (λ (j : ℕ). isP (suc j)) i q (p .live) (e ∙ a .process-live q))
@@ -77,11 +80,12 @@ module _ (s : State) (isP isN : ℕ → Bool) (place up level : ℕ → ℕ) (ma
         → ((i : ℕ) → cond (eqb i q) (n .parent) (up i) ≡ up′ i)
         → ((i : ℕ) → cond (eqb i q) (n .level) (level i) ≡ level′ i)
         → ((k : Kind) (i : ℕ) → cond (eqb i q) (writtenIn (mapIn k n)) (maps k i) ≡ maps′ k i)
-        → Agrees (putNamespace s q n) isP isN′ place up′ level′ maps′ carries
-    unfolding processAt
+        → Agrees (putNamespace s q n) isP isN′ place up′ level′ maps′ kernel carries
+    unfolding processAt kernelMapAt
     stores-namespace isN′ up′ level′ maps′ e f g m = record {
       process-places = a .process-places;
       namespace-places = simp length-set (a .namespace-places);
+      kernel-places = a .kernel-places;
       process-live = a .process-live;
       process-place = a .process-place;
       process-ids = a .process-ids;
@@ -89,6 +93,41 @@ module _ (s : State) (isP isN : ℕ → Bool) (place up level : ℕ → ℕ) (ma
       namespace-parent = λ i. after-namespace (λ (r : Namespace). r .parent) up i (a .namespace-parent i) ∙ f i;
       namespace-level = λ i. after-namespace (λ (r : Namespace). r .level) level i (a .namespace-level i) ∙ g i;
       namespace-map = λ k i. after-namespace (λ (r : Namespace). writtenIn (mapIn k r)) (maps k) i (a .namespace-map k i) ∙ m k i;
+      namespace-kernel = a .namespace-kernel;
+    }
+
+  -- kernel map m of kind j is stored at place q
+  module _ (j : Kind) (q : ℕ) (m : IdMap) (h : q < length (kernelMaps j s)) (kernel′ : Kind → ℕ → List Line)
+      (e : (k : Kind) (i : ℕ) → cond (sameKind k j && eqb i q) (mapLinesOf m) (kernel k i) ≡ kernel′ k i) where
+    kernel-after : (k : Kind) (i : ℕ) → kernelLines (putKernelMap s j q m) k i ≡ kernel′ k i
+    kernel-after k i =
+        ap (λ (r : IdMap). mapLinesOf r) (read-kernel s j q m k i h)
+        ∙ cond-ap (λ (r : IdMap). mapLinesOf r) (sameKind k j && eqb i q) m (kernelMapAt s k i)
+        ∙ rw (a .namespace-kernel k i) (e k i)
+
+    length-after : (k : Kind) → length (kernelMaps k (putKernelMap s j q m)) ≡ length (kernelMaps k s)
+    length-after k = by-kinds k j
+      where
+        by-kinds : (k j : Kind) → length (kernelMaps k (putKernelMap s j q m)) ≡ length (kernelMaps k s)
+        by-kinds User User = length-set (s .kernelUsers) q m
+        by-kinds User Group = refl
+        by-kinds Group User = refl
+        by-kinds Group Group = length-set (s .kernelGroups) q m
+
+    pub stores-kernel : Agrees (putKernelMap s j q m) isP isN place up level maps kernel′ carries
+    unfolding processAt namespaceAt
+    stores-kernel = record {
+      process-places = a .process-places;
+      namespace-places = a .namespace-places;
+      kernel-places = λ k. length-after k ∙ a .kernel-places k;
+      process-live = a .process-live;
+      process-place = a .process-place;
+      process-ids = a .process-ids;
+      namespace-live = a .namespace-live;
+      namespace-parent = a .namespace-parent;
+      namespace-level = a .namespace-level;
+      namespace-map = a .namespace-map;
+      namespace-kernel = kernel-after;
     }
 
 -- ---- the caller of a call
@@ -104,41 +143,3 @@ module _ (s : State) (h : List Event) (a : Agreed s h) (c i : ℕ) (e : processN
 
   pub caller-ids : (k : Kind) → heldIn k (processAt s i) ≡ heldOf k h c
   caller-ids k = rw caller-is (a .process-ids k i)
-
--- ---- translation by the tables is translation by the history
-lines-of : (m : IdMap) → orNone (writtenIn m) ≡ mapLinesOf m
-lines-of m = by-state (m .state) (m .lines)
-  where
-    by-state : (t : MapState) (ls : List Line) → orNone (Rattle.claims.specs.Agreement.linesIf t ls) ≡ Rattle.records.specs.Records.linesIf t ls
-    by-state Unwritten ls = refl
-    by-state (Written n) ls = refl
-
-module _ (s : State) (h : List Event) (a : Agreed s h) (d : SoundAt h) where
-  lines-agree : (k : Kind) (n : ℕ) → mapLinesOf (mapIn k (namespaceAt s n)) ≡ linesOf k h n
-  lines-agree k n = sym (lines-of (mapIn k (namespaceAt s n))) ∙ ap orNone (a .namespace-map k n)
-
-  out-agrees : (k : Kind) (f n x : ℕ) → outIn s k f n x ≡ outBy (parentOf h) (linesOf k h) f n x
-  unfolding outIn outBy
-  out-agrees k zero n x = refl
-  out-agrees k (suc f) n x =
-      rw (lines-agree k n, a .namespace-parent n)
-      (ap (λ (g : ℕ → Translated). cond (eqb n 0) (itself x) (thenId (out (linesOf k h n) x) g)) (λ i y. out-agrees k f (parentOf h n) y i))
-
-  back-agrees : (k : Kind) (f n y : ℕ) → backIn s k f n y ≡ backBy (parentOf h) (linesOf k h) f n y
-  unfolding backIn backBy
-  back-agrees k zero n y = refl
-  back-agrees k (suc f) n y =
-      rw (lines-agree k n, a .namespace-parent n)
-      (ap (λ (t : Translated). cond (eqb n 0) (itself y) (thenId t (λ z. back (linesOf k h n) z))) (back-agrees k f (parentOf h n) y))
-
-  height-agrees : (n : ℕ) → heightOf s n ≡ levelOf h n
-  unfolding heightOf
-  height-agrees n = let e = a .namespace-level n in let b = d .shallow n in rw e (omega arith)
-
-  pub stands-agrees : (k : Kind) (n x : ℕ) → toKernel s k n x ≡ standsFor k h n x
-  unfolding toKernel
-  stands-agrees k n x = rw (height-agrees n) (out-agrees k (levelOf h n) n x)
-
-  pub returns-agrees : (k : Kind) (n y : ℕ) → fromKernel s k n y ≡ backBy (parentOf h) (linesOf k h) (levelOf h n) n y
-  unfolding fromKernel
-  returns-agrees k n y = rw (height-agrees n) (back-agrees k (levelOf h n) n y)

@@ -23,7 +23,7 @@ use Rattle.tables.specs.Find.{processNamed, namespaceNamed, freeProcessPlace, f
 use Rattle.tables.specs.Reply.{done, child, childIn, newNamespace, Outcome, refuse, onFound}
 use Rattle.hierarchy.specs.Walks.{capableIn}
 use Rattle.process.specs.Calls.{sysAdmin, forkOf, knowsItself, entered, makesNamespace, withChild, cloneOf, unshareOf, setnsOf}
-use Rattle.mapping.specs.Calls.{isNear, mayMap, allCovered, writtenMap, withMap, thenLines, writeLinesTo, writeMapTo, writeMapOf, withDeny, settingIn, thenSetting, writeSetgroupsTo, writeSetgroupsOf}
+use Rattle.mapping.specs.Calls.{isNear, mayMap, allCovered, mappedTables, thenLines, writeLinesTo, writeMapTo, writeMapOf, withDeny, settingIn, thenSetting, writeSetgroupsTo, writeSetgroupsOf}
 use Rattle.credentials.specs.Calls.{chosen, thenThree, withIds, mayTake, setIdsOf, groupList, withList, thenList, kernelGroups, setGroupsOf, withSets, dropOf}
 use Rattle.claims.specs.TopLevel.{Has}
 use Rattle.claims.specs.Refusals.{refusalNumbers}
@@ -129,7 +129,7 @@ module _ (s : State) (P : Outcome → Type 0) (no : (e : ℕ) → Has e refusalN
 
   pub write-map-case : (k : Kind) (c name : ℕ) (text : List ℕ)
       → ((p : ℕ) (ls : List Line) → processNamed s name ≡ At p → isWritten (mapIn k (namespaceAt s (processAt s p .namespace)) .state) ≡ false → mapLines text ≡ some ls
-      → P (record { reply = done; tables = putNamespace s (processAt s p .namespace) (withMap k (namespaceAt s (processAt s p .namespace)) (writtenMap ls)) }))
+      → P (record { reply = done; tables = mappedTables s k (processAt s p .namespace) ls }))
       → P (writeMapOf s k c name text)
   unfolding writeMapOf writeMapTo writeLinesTo
   write-map-case k c name text f =

@@ -3,13 +3,15 @@ use Prim.Native.Nat.{ℕ, _-_}
 use mathlib.Core.Path.{_≡_, refl, sym, ap, _∙_}
 use mathlib.Core.Bool.{Bool, true, false, cond, _&&_, true≢false}
 use mathlib.Core.List.{List}
-use mathlib.Core.Option.{none, some}
+use mathlib.Core.Option.{Option, none, some}
+use native.Mathlib.Omega.{arith}
 use lib.Dec.{eqb}
 use lib.ListN.{length, replicate}
 use lib.Seq.{take-append-seam}
 use Rattle.idmap.specs.declared.Line.{Line}
 use Rattle.idmap.specs.Line.{noLine}
 use Rattle.idmap.specs.Good.{maxLines}
+use Rattle.idmap.specs.Compose.{composedOf}
 use Rattle.idmap.specs.Text.{mapLines, padded}
 use Rattle.records.specs.declared.Kind.{Kind}
 use Rattle.records.specs.declared.Kind.the-variants.{User, Group}
@@ -17,18 +19,21 @@ use Rattle.records.specs.declared.Namespace.{Namespace}
 use Rattle.records.specs.declared.MapState.{MapState}
 use Rattle.records.specs.declared.MapState.the-variants.{Unwritten, Written}
 use Rattle.records.specs.declared.IdMap.{IdMap}
-use Rattle.records.specs.Records.{mapIn, isWritten}
+use Rattle.records.specs.Records.{mapIn, isWritten, linesOf}
 use Rattle.tables.specs.declared.find.Found.the-variants.{At}
 use Rattle.tables.specs.Tables.{State, processAt, namespaceAt, putNamespace}
 use Rattle.tables.specs.Find.{processNamed}
-use Rattle.mapping.specs.Calls.{writtenMap, withMap, writeMapOf, withDeny, writeSetgroupsOf}
+use Rattle.hierarchy.specs.Walks.{kernelLines}
+use Rattle.mapping.specs.Calls.{writtenMap, mapOrNone, kernelMapOf, withMap, mappedTables, writeMapOf, withDeny, writeSetgroupsOf}
 use Rattle.calls.specs.declared.Call.the-variants.{WriteMap, WriteSetgroups}
 use Rattle.claims.specs.Events.{Event, other, mapped}
-use Rattle.claims.specs.Words.{isProcess, isNamespace, placeOf, parentOf, levelOf, mapOf, heldOf, sameKind}
+use Rattle.claims.specs.Words.{isProcess, isNamespace, placeOf, parentOf, levelOf, mapOf, kernelOf, composedWith, orNone, heldOf, sameKind}
 use Rattle.claims.specs.Agreement.{linesIf, writtenIn, Agreed}
 use Rattle.claims.proofs.Allowed.{SoundAt}
 use Rattle.claims.proofs.Stores.{namespace-in-range}
-use Rattle.claims.proofs.Agree.{picked-same, stores-namespace, caller-live, caller-place}
+use Rattle.claims.proofs.Agree.{picked-same, stores-namespace, stores-kernel, caller-live, caller-place}
+use Rattle.claims.proofs.Kept.{same-kind}
+use Rattle.prelude.proofs.Tests.{by-test, and-left}
 use Rattle.claims.proofs.Steps.{Next, nothing-happened, After}
 use Rattle.claims.proofs.Cases.{write-map-case, write-setgroups-case}
 
@@ -58,6 +63,15 @@ written-lines : (ls : List Line) → writtenIn (writtenMap ls) ≡ some ls
 unfolding padded
 written-lines ls = ap some (take-append-seam ls (replicate (maxLines - length ls) noLine))
 
+-- the lines of a kernel map
+kernel-lines-of : (above ls : List Line) → linesOf (kernelMapOf above ls) ≡ orNone (composedOf above ls)
+unfolding kernelMapOf padded
+kernel-lines-of above ls = by-option (composedOf above ls)
+  where
+    by-option : (o : Option (List Line)) → linesOf (mapOrNone o) ≡ orNone o
+    by-option none = refl
+    by-option (some ks) = take-append-seam ks (replicate (maxLines - length ks) noLine)
+
 unwritten-is : (m : IdMap) → isWritten (m .state) ≡ false → writtenIn m ≡ none
 unwritten-is m e = by-state (m .state) e
   where
@@ -83,17 +97,36 @@ module _ (s : State) (h : List Event) (a : Agreed s h) (d : SoundAt h) (text lis
     maps-after User Group ls m i = picked-same (mapOf Group h) i (processAt s p .namespace) _ (a .namespace-map Group (processAt s p .namespace))
     maps-after Group User ls m i = picked-same (mapOf User h) i (processAt s p .namespace) _ (a .namespace-map User (processAt s p .namespace))
 
+    -- the kernel lines alike
+    kernel-after : (k j : Kind) (ls : List Line) → mapLines text ≡ some ls → (i : ℕ)
+        → cond (sameKind k j && eqb i (processAt s p .namespace)) (linesOf (kernelMapOf (kernelLines s j (namespaceAt s (processAt s p .namespace) .parent)) ls)) (kernelOf k h i)
+        ≡ cond (sameKind k j && eqb i (placeOf h name)) (composedWith (kernelOf k h (parentOf h (placeOf h name))) (mapLines text)) (kernelOf k h i)
+    kernel-after k j ls m i =
+        by-test (sameKind k j && eqb i (placeOf h name))
+        (λ t.
+        let q : kernelLines s j (namespaceAt s (processAt s p .namespace) .parent) ≡ kernelOf k h (parentOf h (placeOf h name)) =
+            a .namespace-kernel j (namespaceAt s (processAt s p .namespace) .parent)
+            ∙ ap (kernelOf j h) (a .namespace-parent (processAt s p .namespace) ∙ ap (parentOf h) (caller-place s h a name p e))
+            ∙ ap (λ (x : Kind). kernelOf x h (parentOf h (placeOf h name))) (sym (same-kind k j (and-left (sameKind k j) (eqb i (placeOf h name)) t))) in
+        let r : linesOf (kernelMapOf (kernelLines s j (namespaceAt s (processAt s p .namespace) .parent)) ls) ≡ composedWith (kernelOf k h (parentOf h (placeOf h name))) (mapLines text) =
+            kernel-lines-of (kernelLines s j (namespaceAt s (processAt s p .namespace) .parent)) ls ∙ ap (λ (above : List Line). orNone (composedOf above ls)) q ∙ rw m in
+        rw (r, caller-place s h a name p e, t))
+        (λ t. rw (caller-place s h a name p e, t))
+
     mapped-next : (k : Kind) (ls : List Line) → mapLines text ≡ some ls → isWritten (mapIn k (namespaceAt s (processAt s p .namespace)) .state) ≡ false
-        → Next h (mapped k name text) (putNamespace s (processAt s p .namespace) (withMap k (namespaceAt s (processAt s p .namespace)) (writtenMap ls)))
-    unfolding isProcess isNamespace placeOf parentOf levelOf mapOf heldOf
+        → Next h (mapped k name text) (mappedTables s k (processAt s p .namespace) ls)
+    unfolding mappedTables isProcess isNamespace placeOf parentOf levelOf mapOf kernelOf heldOf
     mapped-next k ls m w =
         let n = processAt s p .namespace in
         record {
-          agree = stores-namespace s _ _ _ _ _ _ _ a n (withMap k (namespaceAt s n) (writtenMap ls)) (namespace-in-range s n target-live) _ _ _ _
+          agree = stores-kernel (putNamespace s n (withMap k (namespaceAt s n) (writtenMap ls))) _ _ _ _ _ _ _ _
+              (stores-namespace s _ _ _ _ _ _ _ _ a n (withMap k (namespaceAt s n) (writtenMap ls)) (namespace-in-range s n target-live) _ _ _ _
               (λ i. picked-same (isNamespace h) i n _ (map-live k (namespaceAt s n) (writtenMap ls) ∙ a .namespace-live n))
               (λ i. picked-same (parentOf h) i n _ (map-parent k (namespaceAt s n) (writtenMap ls) ∙ a .namespace-parent n))
               (λ i. picked-same (levelOf h) i n _ (map-level k (namespaceAt s n) (writtenMap ls) ∙ a .namespace-level n))
-              (λ j i. maps-after k j ls m i);
+              (λ j i. maps-after k j ls m i))
+              k n _ (let r = namespace-in-range s n target-live in let p = a .namespace-places in let q = a .kernel-places k in omega arith) _
+              (λ j i. kernel-after j k ls m i);
           allowed = record {
             process = caller-live s h a name p e;
             unwritten = rw (← caller-place s h a name p e) (sym (a .namespace-map k n) ∙ unwritten-is (mapIn k (namespaceAt s n)) w);
@@ -106,7 +139,7 @@ module _ (s : State) (h : List Event) (a : Agreed s h) (d : SoundAt h) (text lis
     set-next b =
         let n = processAt s p .namespace in
         nothing-happened _ h
-        (stores-namespace s _ _ _ _ _ _ _ a n (withDeny (namespaceAt s n) b) (namespace-in-range s n target-live) _ _ _ _
+        (stores-namespace s _ _ _ _ _ _ _ _ a n (withDeny (namespaceAt s n) b) (namespace-in-range s n target-live) _ _ _ _
         (λ i. picked-same (isNamespace h) i n _ (a .namespace-live n))
         (λ i. picked-same (parentOf h) i n _ (a .namespace-parent n))
         (λ i. picked-same (levelOf h) i n _ (a .namespace-level n))

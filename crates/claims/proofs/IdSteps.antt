@@ -22,12 +22,13 @@ use Rattle.tables.specs.Find.{processNamed}
 use Rattle.credentials.specs.Calls.{chosen, withUsers, withGroups, withIds, setIdsOf, toOption, groupList, withList, kernelGroups, setGroupsOf, withSets, dropOf}
 use Rattle.calls.specs.declared.Call.the-variants.{SetIds, SetGroups, Drop}
 use Rattle.claims.specs.Events.{Event, other, changed, grouped}
-use Rattle.claims.specs.Words.{Held, isProcess, isNamespace, placeOf, parentOf, levelOf, mapOf, heldOf, standsFor, chosenOf, changedIds, orNoId, sameKind}
+use Rattle.claims.specs.Words.{Held, isProcess, isNamespace, placeOf, parentOf, levelOf, mapOf, kernelOf, heldOf, standsFor, chosenOf, changedIds, orNoId, sameKind}
 use Rattle.claims.specs.History.{AllSmall}
 use Rattle.claims.specs.Agreement.{moreIn, heldIn, Agreed}
 use Rattle.claims.proofs.Allowed.{SoundAt, AllStand}
 use Rattle.claims.proofs.Stores.{named, process-in-range, same-number}
-use Rattle.claims.proofs.Agree.{picked-same, stores-process, keeps-process, caller-is, caller-live, caller-place, caller-ids, stands-agrees}
+use Rattle.claims.proofs.Agree.{picked-same, stores-process, keeps-process, caller-is, caller-live, caller-place, caller-ids}
+use Rattle.claims.proofs.Translating.{OnceAt, stands-agrees}
 use Rattle.claims.proofs.Kept.{same-kind}
 use Rattle.prelude.proofs.Tests.{by-test}
 use Rattle.claims.proofs.Steps.{Next, nothing-happened, After}
@@ -87,11 +88,11 @@ groups-stand h n (x ∷ list) l b e =
     let r = cons-some (toOption (standsFor Group h n x)) (allOf (λ (x : ℕ). toOption (standsFor Group h n x)) list) l e in
     (b .0, (r .0, option-id (standsFor Group h n x) (r .0) (r .2)), groups-stand h n list (r .1) (b .1) (r .3))
 
-module _ (s : State) (h : List Event) (a : Agreed s h) (d : SoundAt h) (text list : List ℕ) where
+module _ (s : State) (h : List Event) (a : Agreed s h) (d : SoundAt h) (o : OnceAt h) (text list : List ℕ) where
   module _ (c i : ℕ) (e : processNamed s c ≡ At i) where
     -- one of the three: the tables choose as the history does
     chosen-agrees : (k : Kind) (x old old′ : ℕ) → old ≡ old′ → chosen s k (processAt s i .namespace) x old ≡ chosenOf k h (placeOf h c) x old′
-    chosen-agrees k x old old′ f = rw (f, stands-agrees s h a d k (processAt s i .namespace) x, caller-place s h a c i e)
+    chosen-agrees k x old old′ f = rw (f, stands-agrees s h a d o k (processAt s i .namespace) x, caller-place s h a c i e)
 
     real-is : (k : Kind) → idsIn k (processAt s i) .real ≡ heldOf k h c .three .real
     real-is k = ap (λ (m : Held). m .three .real) (caller-ids s h a c i e k)
@@ -137,9 +138,9 @@ module _ (s : State) (h : List Event) (a : Agreed s h) (d : SoundAt h) (text lis
           (λ t. rw (ids-held j k s (processAt s i) after, t) (picked-same (λ (r : ℕ). heldOf j h (suc r)) m i (heldIn j (processAt s i)) (a .process-ids j i)))
 
       changed-next : new .real < 2 ^ 32 → new .effective < 2 ^ 32 → new .saved < 2 ^ 32 → Next h (changed k c new) (putProcess s i (withIds s k (processAt s i) after))
-      unfolding isProcess isNamespace placeOf parentOf levelOf mapOf heldOf
+      unfolding isProcess isNamespace placeOf parentOf levelOf mapOf kernelOf heldOf
       changed-next u v w = record {
-        agree = stores-process s _ _ _ _ _ _ _ a i (withIds s k (processAt s i) after) (process-in-range s i (named s c i e .1)) _ _ _
+        agree = stores-process s _ _ _ _ _ _ _ _ a i (withIds s k (processAt s i) after) (process-in-range s i (named s c i e .1)) _ _ _
             (λ m. picked-same (λ (r : ℕ). isProcess h (suc r)) m i _ (ids-live s k (processAt s i) after ∙ a .process-live i))
             (λ m. picked-same (λ (r : ℕ). placeOf h (suc r)) m i _ (ids-place s k (processAt s i) after ∙ a .process-place i))
             held-after;
@@ -162,7 +163,7 @@ module _ (s : State) (h : List Event) (a : Agreed s h) (d : SoundAt h) (text lis
   drop-next c permitted effective =
       drop-case s (After h (Drop c permitted effective) text list) (λ e i. nothing-happened s h a) c permitted effective (λ i e.
       nothing-happened _ h
-      (keeps-process s _ _ _ _ _ _ _ a i (withSets (processAt s i) permitted effective) (process-in-range s i (named s c i e .1)) refl refl
+      (keeps-process s _ _ _ _ _ _ _ _ a i (withSets (processAt s i) permitted effective) (process-in-range s i (named s c i e .1)) refl refl
       (λ k. sets-ids k (processAt s i) permitted effective)))
 
   -- ---- setgroups
@@ -170,7 +171,7 @@ module _ (s : State) (h : List Event) (a : Agreed s h) (d : SoundAt h) (text lis
     all-stand : allOf (λ (x : ℕ). toOption (standsFor Group h (placeOf h c) x)) list ≡ some l
     unfolding kernelGroups
     all-stand =
-        ap (λ (g : ℕ → Translated). allOf (λ (x : ℕ). toOption (g x)) list) (λ j x. (sym (ap (λ (n : ℕ). standsFor Group h n x) (caller-place s h a c i e)) ∙ sym (stands-agrees s h a d Group (processAt s i .namespace) x)) j)
+        ap (λ (g : ℕ → Translated). allOf (λ (x : ℕ). toOption (g x)) list) (λ j x. (sym (ap (λ (n : ℕ). standsFor Group h n x) (caller-place s h a c i e)) ∙ sym (stands-agrees s h a d o Group (processAt s i .namespace) x)) j)
         ∙ f
 
     listed : take (groupList l .count) (groupList l .ids) ≡ map (λ (x : ℕ). orNoId (standsFor Group h (placeOf h c) x)) list
@@ -186,9 +187,9 @@ module _ (s : State) (h : List Event) (a : Agreed s h) (d : SoundAt h) (text lis
         rw (same-number m c i (caller-is s h a c i e), listed, g)
 
     grouped-next : AllSmall list → Next h (grouped c list) (putProcess s i (withList (processAt s i) (groupList l)))
-    unfolding isProcess isNamespace placeOf parentOf levelOf mapOf heldOf withList
+    unfolding isProcess isNamespace placeOf parentOf levelOf mapOf kernelOf heldOf withList
     grouped-next b = record {
-      agree = stores-process s _ _ _ _ _ _ _ a i (withList (processAt s i) (groupList l)) (process-in-range s i (named s c i e .1)) _ _ _
+      agree = stores-process s _ _ _ _ _ _ _ _ a i (withList (processAt s i) (groupList l)) (process-in-range s i (named s c i e .1)) _ _ _
           (λ m. picked-same (λ (r : ℕ). isProcess h (suc r)) m i _ (a .process-live i))
           (λ m. picked-same (λ (r : ℕ). placeOf h (suc r)) m i _ (a .process-place i))
           groups-after;

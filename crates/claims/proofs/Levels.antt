@@ -19,7 +19,7 @@ use Rattle.claims.specs.Translation.{Pairs, Out, top, through, Back, bot
 use Rattle.claims.proofs.Pairs.{out-pairs, pairs-out, back-pairs, pairs-back, inside-small, parent-small}
 
 -- a translation is an ID or not
-by-translated : {P : Type 0} (t : Translated) → ((z : ℕ) → t ≡ Id z → P) → (t ≡ Unmapped → P) → P
+pub by-translated : {P : Type 0} (t : Translated) → ((z : ℕ) → t ≡ Id z → P) → (t ≡ Unmapped → P) → P
 by-translated (Id z) f g = f z refl
 by-translated Unmapped f g = g refl
 

@@ -7,6 +7,8 @@ pub mod Stays
 pub mod Carried
 pub mod Stores
 pub mod Agree
+pub mod AtOnce
+pub mod Translating
 pub mod Cases
 pub mod Steps
 pub mod FileSteps

@@ -2,21 +2,23 @@
 use Prim.Native.Nat.{ℕ, zero, suc}
 use mathlib.Core.Path.{_≡_, refl, sym, ap, _∙_}
 use mathlib.Core.Bool.{Bool, true, false, cond}
-use mathlib.Core.List.{[]}
+use mathlib.Core.List.{[], _∷_}
 use mathlib.Core.Option.{none}
 use native.Mathlib.Omega.{arith}
 use lib.Dec.{eqb}
-use lib.ListN.{getD, replicate, length-replicate}
+use lib.ListN.{length, getD, replicate, length-replicate}
 use Rattle.records.specs.declared.Kind.{Kind}
 use Rattle.records.specs.declared.Kind.the-variants.{User, Group}
 use Rattle.records.specs.declared.Process.{Process}
 use Rattle.records.specs.declared.Namespace.{Namespace}
-use Rattle.records.specs.Records.{freeProcess, freeNamespace, mapIn}
-use Rattle.tables.specs.Tables.{State, processAt, namespaceAt, putProcess, firstProcess, rootNamespace, initialTables, allZero}
+use Rattle.records.specs.declared.IdMap.{IdMap}
+use Rattle.records.specs.Records.{freeProcess, freeMap, freeNamespace, mapIn, linesOf}
+use Rattle.tables.specs.Tables.{State, processAt, namespaceAt, kernelMaps, kernelMapAt, putProcess, firstProcess, fixedMap, rootNamespace, firstKernelMaps, initialTables, allZero}
+use Rattle.hierarchy.specs.Walks.{kernelLines}
 use Rattle.prelude.proofs.Tests.{by-test}
-use Rattle.claims.specs.Words.{isProcess, isNamespace, placeOf, parentOf, levelOf, mapOf, heldOf}
+use Rattle.claims.specs.Words.{isProcess, isNamespace, placeOf, parentOf, levelOf, fixedLine, mapOf, kernelOf, heldOf}
 use Rattle.claims.specs.Agreement.{heldIn, writtenIn, Agrees, Agreed}
-use Rattle.claims.proofs.Stores.{next-number}
+use Rattle.claims.proofs.Stores.{cond-ap, stored-or-kept, next-number}
 use Rattle.claims.proofs.Agree.{stores-process, stores-namespace}
 
 all-same : {A : Type 0} (x : A) (n i : ℕ) → getD (replicate n x) i x ≡ x
@@ -25,7 +27,7 @@ all-same x (suc n) zero = refl
 all-same x (suc n) (suc i) = all-same x n i
 
 abbrev empty : State
-empty = record { processes = replicate 128 freeProcess; namespaces = replicate 64 freeNamespace }
+empty = record { processes = replicate 128 freeProcess; namespaces = replicate 64 freeNamespace; kernelUsers = firstKernelMaps; kernelGroups = firstKernelMaps }
 
 free-ids : (k : Kind) → heldIn k freeProcess ≡ record { three = allZero; more = [] }
 free-ids User = refl
@@ -35,12 +37,31 @@ free-map : (k : Kind) → writtenIn (mapIn k freeNamespace) ≡ none
 free-map User = refl
 free-map Group = refl
 
--- tables that are all free
-empty-agrees : Agrees empty (λ (i : ℕ). false) (λ (i : ℕ). false) (λ (i : ℕ). 0) (λ (i : ℕ). 0) (λ (i : ℕ). 0) (λ (k : Kind) (i : ℕ). none) (λ (k : Kind) (i : ℕ). record { three = allZero; more = [] })
+-- the kernel maps: the initial namespace's only
+first-places : (k : Kind) → length (kernelMaps k empty) ≡ 64
+unfolding firstKernelMaps
+first-places User = refl
+first-places Group = refl
+
+first-line : (i : ℕ) → linesOf (getD firstKernelMaps i freeMap) ≡ cond (eqb i 0) (fixedLine ∷ []) []
+unfolding firstKernelMaps
+first-line i =
+    ap (λ (m : IdMap). linesOf m) (stored-or-kept (replicate 64 freeMap) 0 fixedMap freeMap i (rw (length-replicate) (omega arith)))
+    ∙ cond-ap (λ (m : IdMap). linesOf m) (eqb i 0) fixedMap (getD (replicate 64 freeMap) i freeMap)
+    ∙ rw (all-same freeMap 64 i)
+
+first-lines : (k : Kind) (i : ℕ) → kernelLines empty k i ≡ kernelOf k [] i
+unfolding kernelMapAt kernelOf
+first-lines User i = first-line i
+first-lines Group i = first-line i
+
+-- tables with no process and no namespace
+empty-agrees : Agrees empty (λ (i : ℕ). false) (λ (i : ℕ). false) (λ (i : ℕ). 0) (λ (i : ℕ). 0) (λ (i : ℕ). 0) (λ (k : Kind) (i : ℕ). none) (λ (k : Kind). kernelOf k []) (λ (k : Kind) (i : ℕ). record { three = allZero; more = [] })
 unfolding processAt namespaceAt
 empty-agrees = record {
   process-places = length-replicate 128 freeProcess;
   namespace-places = length-replicate 64 freeNamespace;
+  kernel-places = first-places;
   process-live = λ i. ap (λ (p : Process). p .live) (all-same freeProcess 128 i);
   process-place = λ i. ap (λ (p : Process). p .namespace) (all-same freeProcess 128 i);
   process-ids = λ k i. ap (heldIn k) (all-same freeProcess 128 i) ∙ free-ids k;
@@ -48,6 +69,7 @@ empty-agrees = record {
   namespace-parent = λ i. ap (λ (n : Namespace). n .parent) (all-same freeNamespace 64 i);
   namespace-level = λ i. ap (λ (n : Namespace). n .level) (all-same freeNamespace 64 i);
   namespace-map = λ k i. ap (λ (n : Namespace). writtenIn (mapIn k n)) (all-same freeNamespace 64 i) ∙ free-map k;
+  namespace-kernel = first-lines;
 }
 
 first-ids : (k : Kind) → heldIn k firstProcess ≡ record { three = allZero; more = [] }
@@ -66,8 +88,8 @@ is-it false = refl
 pub start-agrees : Agreed initialTables []
 unfolding initialTables isProcess isNamespace placeOf parentOf levelOf heldOf
 start-agrees =
-    stores-namespace (putProcess empty 0 firstProcess) _ _ _ _ _ _ _
-    (stores-process empty _ _ _ _ _ _ _ empty-agrees 0 firstProcess (rw (length-replicate) (omega arith)) (isProcess []) (placeOf []) (λ (k : Kind). heldOf k [])
+    stores-namespace (putProcess empty 0 firstProcess) _ _ _ _ _ _ _ _
+    (stores-process empty _ _ _ _ _ _ _ _ empty-agrees 0 firstProcess (rw (length-replicate) (omega arith)) (isProcess []) (placeOf []) (λ (k : Kind). heldOf k [])
     (λ i. is-it (eqb i 0) ∙ sym (next-number i 0))
     (λ i. by-test (eqb i 0) (λ t. rw t) (λ t. rw t))
     (λ k i. by-test (eqb i 0) (λ t. rw t (first-ids k)) (λ t. rw t)))

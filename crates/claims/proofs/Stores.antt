@@ -1,20 +1,24 @@
 -- Reads after stores, at every place, and what the finds find. Assumes nothing.
 use Prim.Native.Nat.{ℕ, suc, _+_, _-_, _≤_, _<_}
 use mathlib.Core.Path.{_≡_, refl, sym, ap, _∙_}
-use mathlib.Core.Bool.{Bool, true, false, cond, true≢false}
+use mathlib.Core.Bool.{Bool, true, false, cond, _&&_, true≢false}
 use mathlib.Core.List.{List, [], _∷_}
 use native.Mathlib.Omega.{arith}
 use lib.Dec.{eqb, ltb}
-use lib.ListN.{length, getD, List·getD-eq-default}
+use lib.ListN.{length, getD, set, List·getD-eq-default}
+use lib.Seq.{getD-set-same, getD-set-other}
 use borrow.Author.Tests.{eq-eqb, eqb-true, eqb-false, ltb-true, ltb-false}
 use Rattle.records.specs.declared.Process.{Process}
 use Rattle.records.specs.declared.Namespace.{Namespace}
-use Rattle.records.specs.Records.{freeProcess, freeNamespace}
+use Rattle.records.specs.declared.IdMap.{IdMap}
+use Rattle.records.specs.declared.Kind.{Kind}
+use Rattle.records.specs.declared.Kind.the-variants.{User, Group}
+use Rattle.records.specs.Records.{freeProcess, freeMap, freeNamespace}
 use Rattle.tables.specs.declared.find.Found.the-variants.{At, Nothing}
-use Rattle.tables.specs.Tables.{State, processAt, namespaceAt, putProcess, putNamespace}
+use Rattle.tables.specs.Tables.{State, processAt, namespaceAt, kernelMaps, kernelMapAt, putProcess, putNamespace, putKernelMap}
 use Rattle.tables.specs.Find.{processNamed, namespaceNamed, freeFrom, freeProcessPlace, freeNamespacePlace}
-use Rattle.tables.proofs.ReadAfterStore.{process-stored, process-kept, namespace-stored, namespace-kept}
 use Rattle.prelude.proofs.Tests.{by-test, test-same}
+use Rattle.claims.specs.Words.{sameKind}
 
 -- a function of what a test picks
 pub cond-ap : {A B : Type 0} (f : A → B) (t : Bool) (x y : A) → f (cond t x y) ≡ cond t (f x) (f y)
@@ -22,17 +26,26 @@ cond-ap f true x y = refl
 cond-ap f false x y = refl
 
 -- what stands at each place after a store
-pub read-process : (s : State) (q : ℕ) (p : Process) (i : ℕ) → q < length (s .processes) → processAt (putProcess s q p) i ≡ cond (eqb i q) p (processAt s i)
-read-process s q p i h =
+pub stored-or-kept : {A : Type 0} (l : List A) (q : ℕ) (x d : A) (i : ℕ) → q < length l → getD (set l q x) i d ≡ cond (eqb i q) x (getD l i d)
+stored-or-kept l q x d i h =
     by-test (eqb i q)
-    (λ t. let e : i ≡ q = eqb-true i q t in rw t (ap (processAt (putProcess s q p)) e ∙ process-stored s q p h))
-    (λ t. rw t (process-kept s q p i (eqb-false i q t)))
+    (λ t. let e : i ≡ q = eqb-true i q t in rw t (ap (λ (j : ℕ). getD (set l q x) j d) e ∙ getD-set-same l q x d h))
+    (λ t. rw t (getD-set-other l q i x d (eqb-false i q t)))
+
+pub read-process : (s : State) (q : ℕ) (p : Process) (i : ℕ) → q < length (s .processes) → processAt (putProcess s q p) i ≡ cond (eqb i q) p (processAt s i)
+unfolding processAt
+read-process s q p i h = stored-or-kept (s .processes) q p freeProcess i h
 
 pub read-namespace : (s : State) (q : ℕ) (n : Namespace) (i : ℕ) → q < length (s .namespaces) → namespaceAt (putNamespace s q n) i ≡ cond (eqb i q) n (namespaceAt s i)
-read-namespace s q n i h =
-    by-test (eqb i q)
-    (λ t. let e : i ≡ q = eqb-true i q t in rw t (ap (namespaceAt (putNamespace s q n)) e ∙ namespace-stored s q n h))
-    (λ t. rw t (namespace-kept s q n i (eqb-false i q t)))
+unfolding namespaceAt
+read-namespace s q n i h = stored-or-kept (s .namespaces) q n freeNamespace i h
+
+pub read-kernel : (s : State) (j : Kind) (q : ℕ) (m : IdMap) (k : Kind) (i : ℕ) → q < length (kernelMaps j s) → kernelMapAt (putKernelMap s j q m) k i ≡ cond (sameKind k j && eqb i q) m (kernelMapAt s k i)
+unfolding kernelMapAt
+read-kernel s User q m User i h = stored-or-kept (s .kernelUsers) q m freeMap i h
+read-kernel s User q m Group i h = refl
+read-kernel s Group q m User i h = refl
+read-kernel s Group q m Group i h = stored-or-kept (s .kernelGroups) q m freeMap i h
 
 -- ---- what is live is in range, since a place past the end is free
 pub process-in-range : (s : State) (i : ℕ) → processAt s i .live ≡ true → i < length (s .processes)

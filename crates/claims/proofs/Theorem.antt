@@ -31,7 +31,7 @@ use Rattle.claims.proofs.Allowed.{Valid, SoundAt, sound}
 use Rattle.claims.proofs.Stays.{stays, still-top}
 use Rattle.claims.proofs.Carried.{carried}
 use Rattle.claims.proofs.Stores.{space-named}
-use Rattle.claims.proofs.Agree.{stands-agrees, returns-agrees}
+use Rattle.claims.proofs.Translating.{OnceAt, once, stands-agrees, returns-agrees}
 use Rattle.claims.proofs.Steps.{Next, nothing-happened, fork-next, clone-next, unshare-next, setns-next}
 use Rattle.claims.proofs.Cases.{found-case}
 use Rattle.claims.proofs.FileSteps.{write-map-next, write-setgroups-next}
@@ -39,7 +39,7 @@ use Rattle.claims.proofs.IdSteps.{set-ids-next, set-groups-next, drop-n
 use Rattle.claims.proofs.Start.{start-agrees}
 
 -- ---- one call
-module _ (s : State) (h : List Event) (a : Agreed s h) (d : SoundAt h) (text list buffer : List ℕ) where
+module _ (s : State) (h : List Event) (a : Agreed s h) (d : SoundAt h) (u : OnceAt h) (text list buffer : List ℕ) where
   -- its tables agree with the history that it lengthens, and it was allowed
   call-next : (c : Call) → CallFits c → AllSmall list → Next h (happenedBy c text list (answerBy s c text list buffer .reply)) (answerBy s c text list buffer .tables)
   unfolding answerBy
@@ -51,10 +51,10 @@ module _ (s : State) (h : List Event) (a : Agreed s h) (d : SoundAt h) (text lis
   call-next (WriteSetgroups c p) f l = write-setgroups-next s h a d text list c p
   call-next (ReadMap k c p) f l = nothing-happened s h a
   call-next (ReadSetgroups c p) f l = nothing-happened s h a
-  call-next (SetIds k c i) f l = set-ids-next s h a d text list k c i (f .0) (f .1) (f .2)
-  call-next (SetGroups c) f l = set-groups-next s h a d text list c l
+  call-next (SetIds k c i) f l = set-ids-next s h a d u text list k c i (f .0) (f .1) (f .2)
+  call-next (SetGroups c) f l = set-groups-next s h a d u text list c l
   call-next (Capable c n number) f l = nothing-happened s h a
-  call-next (Drop c p e) f l = drop-next s h a d text list c p e
+  call-next (Drop c p e) f l = drop-next s h a d u text list c p e
   call-next (OwnIdsOf c) f l = nothing-happened s h a
   call-next (Translate k w c n x) f l = nothing-happened s h a
 
@@ -71,16 +71,16 @@ answers (Id x) R f r = (
 answers Unmapped R f r =
     ((λ y. ((λ e. absurd (no-reply (sym e))), (λ q. absurd (two-answers (f y .1 q))))), ((λ e y q. two-answers (f y .1 q)), (λ g. refl)))
 
-module _ (s : State) (h : List Event) (a : Agreed s h) (d : SoundAt h) where
+module _ (s : State) (h : List Event) (a : Agreed s h) (d : SoundAt h) (u : OnceAt h) where
   -- what the tables translate to is what the history does
   pub by-history : (k : Kind) (w : Way) (n x : ℕ) → x < 2 ^ 32 → (y : ℕ) → (turned s k w n x ≡ Id y) ↔ TranslatesTo h k w n x y
   by-history k Out n x small y = (
-    (λ e. out-is (parentOf h) (linesOf k h) (d .good k) (levelOf h n) n x y small (sym (stands-agrees s h a d k n x) ∙ e)),
-    (λ o. stands-agrees s h a d k n x ∙ is-out (parentOf h) (linesOf k h) (d .good k) (levelOf h) (deep _ _ _ _ _ _ d k) (levelOf h n) n x y (omega arith) o),
+    (λ e. out-is (parentOf h) (linesOf k h) (d .good k) (levelOf h n) n x y small (sym (stands-agrees s h a d u k n x) ∙ e)),
+    (λ o. stands-agrees s h a d u k n x ∙ is-out (parentOf h) (linesOf k h) (d .good k) (levelOf h) (deep _ _ _ _ _ _ d k) (levelOf h n) n x y (omega arith) o),
   )
   by-history k Back n x small y = (
-    (λ e. back-is (parentOf h) (linesOf k h) (d .good k) (levelOf h n) n x y small (sym (returns-agrees s h a d k n x) ∙ e)),
-    (λ o. returns-agrees s h a d k n x ∙ is-back (parentOf h) (linesOf k h) (d .good k) (levelOf h) (deep _ _ _ _ _ _ d k) (levelOf h n) n x y (omega arith) o),
+    (λ e. back-is (parentOf h) (linesOf k h) (d .good k) (levelOf h n) n x y small (sym (returns-agrees s h a d u k n x small) ∙ e)),
+    (λ o. returns-agrees s h a d u k n x small ∙ is-back (parentOf h) (linesOf k h) (d .good k) (levelOf h) (deep _ _ _ _ _ _ d k) (levelOf h n) n x y (omega arith) o),
   )
 
   translate-answers : (k : Kind) (w : Way) (c name x : ℕ) → x < 2 ^ 32 → Answers (translateReply s k w c name x) (TranslatesTo h k w name x)
@@ -127,11 +127,12 @@ step : (s : State) (h : List Entry) (r : Request) → Fits r → Reached s h →
 unfolding Valid AllTranslate
 step s h r f a =
     let d = sound (events h) (a .valid) in
-    let n = call-next s (events h) (a .agree) d (r .text) (r .list) (r .buffer) (r .call) (f .0) (f .1) in
+    let o = once (events h) (a .valid) in
+    let n = call-next s (events h) (a .agree) d o (r .text) (r .list) (r .buffer) (r .call) (f .0) (f .1) in
     record {
       agree = n .agree;
       valid = (n .allowed, a .valid);
-      all-translate = (call-translates s (events h) (a .agree) d (r .call) (r .text) (r .list) (r .buffer) (f .0), a .all-translate);
+      all-translate = (call-translates s (events h) (a .agree) d o (r .call) (r .text) (r .list) (r .buffer) (f .0), a .all-translate);
     }
 
 steps : (s : State) (h : List Entry) (rs : List Request) → AllFit rs → Reached s h → Reached (runFrom s rs) (historyFrom s h rs)

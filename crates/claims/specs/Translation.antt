@@ -9,9 +9,9 @@ use Rattle.idmap.specs.declared.Line.{Line}
 use Rattle.idmap.specs.declared.Translated.{Translated}
 use Rattle.idmap.specs.declared.Translated.the-variants.{Unmapped}
 use Rattle.idmap.specs.Line.{noLine}
-use Rattle.idmap.specs.Lookup.{out, back}
+use Rattle.idmap.specs.Lookup.{out, thenId, back}
 use Rattle.idmap.specs.Good.{noId}
-use Rattle.hierarchy.specs.Walks.{itself, thenId}
+use Rattle.hierarchy.specs.Walks.{itself}
 
 -- an ID x inside and an ID z on the parent side belong together: some line has both, at the same offset
 pub record Pairs (ls : List Line) (x z : ℕ) : Type 0 where

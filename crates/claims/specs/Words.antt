@@ -9,6 +9,7 @@ use Rattle.idmap.specs.declared.Line.{Line}
 use Rattle.idmap.specs.declared.Translated.{Translated}
 use Rattle.idmap.specs.declared.Translated.the-variants.{Id, Unmapped}
 use Rattle.idmap.specs.Good.{noId}
+use Rattle.idmap.specs.Compose.{composedOf}
 use Rattle.idmap.specs.Text.{mapLines}
 use Rattle.records.specs.declared.Kind.{Kind}
 use Rattle.records.specs.declared.Kind.the-variants.{User, Group}
@@ -104,6 +105,24 @@ mapOf k (grouped c list ∷ h) m = mapOf k h m
 abbrev pub orNone : Option (List Line) → List Line
 orNone none = []
 orNone (some ls) = ls
+
+-- the lines of a map with kernel IDs on the parent side: those of the map write, each as the parent's lines of this kind have it; none where one
+-- of them does not lie whole in one of those. Translation does not go by them: that the tables may is a law
+abbrev pub composedWith : List Line → Option (List Line) → List Line
+composedWith above none = []
+composedWith above (some ls) = orNone (composedOf above ls)
+
+unfoldable pub kernelOf : Kind → List Event → ℕ → List Line
+kernelOf k [] m = cond (eqb m 0) (fixedLine ∷ []) []
+kernelOf k (other ∷ h) m = kernelOf k h m
+kernelOf k (forked c q ∷ h) m = kernelOf k h m
+kernelOf k (cloned c q n ∷ h) m = kernelOf k h m
+kernelOf k (unshared c n ∷ h) m = kernelOf k h m
+kernelOf k (joined c n ∷ h) m = kernelOf k h m
+kernelOf k (mapped j q text ∷ h) m =
+    cond (sameKind k j && eqb m (placeOf h q)) (composedWith (kernelOf k h (parentOf h (placeOf h q))) (mapLines text)) (kernelOf k h m)
+kernelOf k (changed j c new ∷ h) m = kernelOf k h m
+kernelOf k (grouped c list ∷ h) m = kernelOf k h m
 
 abbrev pub linesOf : Kind → List Event → ℕ → List Line
 linesOf k h m = orNone (mapOf k h m)

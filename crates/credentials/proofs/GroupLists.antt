@@ -1,19 +1,17 @@
 -- Setgroups, in the words of the code: each law's premises are what a place knows. Assumes nothing.
-use Prim.Native.Nat.{ℕ, suc, _+_, _-_, _≤_, _<_}
+use Prim.Native.Nat.{ℕ, _+_, _-_, _≤_, _<_}
 use mathlib.Core.Path.{_≡_, refl, sym, ap, _∙_}
 use mathlib.Core.Bool.{Bool, true, false, true≢false}
-use mathlib.Core.List.{List, [], _∷_, _++_, append-assoc, append-nil}
+use mathlib.Core.List.{List, []}
 use mathlib.Core.Option.{Option, none, some}
-use native.Mathlib.Numerals.{add-one}
 use native.Mathlib.Omega.{arith}
-use lib.Dec.{ltb}
-use lib.ListN.{length, take, drop, getD, set, replicate, take-append-drop, drop-of-length-le}
-use lib.Seq.{length-take-le, drop-cons, drop-drop, take-suc-set, drop-set-lt}
+use lib.ListN.{length, take, drop, getD, set, replicate}
 use borrow.Author.Needs.{needs}
 use borrow.Author.Tests.{lt-ltb, le-ltb}
 use Rattle.idmap.specs.declared.Translated.{Translated}
 use Rattle.idmap.specs.declared.Translated.the-variants.{Id, Unmapped}
-use Rattle.idmap.specs.Text.{consOf, allOf}
+use Rattle.idmap.proofs.Collecting.{allFrom, all-starts, all-ends, all-none, all-next, made-so-far}
+use Rattle.idmap.proofs.Collecting.{rest-empty as collected-rest}
 use Rattle.records.specs.declared.Kind.the-variants.{Group}
 use Rattle.records.specs.declared.GroupList.{GroupList}
 use Rattle.records.specs.declared.Process.{Process}
@@ -21,7 +19,7 @@ use Rattle.records.specs.declared.Namespace.{Namespace}
 use Rattle.records.specs.Records.{isWritten}
 use Rattle.tables.specs.Tables.{State, tablesOf, processAt, namespaceAt, putProcess}
 use Rattle.tables.specs.Find.{processNamed}
-use Rattle.tables.specs.Reply.{Outcome, done, refuse, unless, when, Promise}
+use Rattle.tables.specs.Reply.{Outcome, done, refuse, Promise}
 use Rattle.tables.specs.declared.find.Found.{Found}
 use Rattle.tables.specs.declared.find.Found.the-variants.{At, Nothing}
 use Rattle.tables.specs.declared.answer.Errno.the-variants.{EPERM, ESRCH, EINVAL}
@@ -39,63 +37,36 @@ no-groups = refl
 module _ (ids : List ℕ) (i : ℕ) (long : length ids ≡ 16) (room : i ≤ 16) where
   pub groups-so-far : drop i ids ≡ replicate (16 - i) 0 → _≡_ {A = GroupList} (record { count = i; ids = ids }) (groupList (take i ids))
   unfolding groupList
-  groups-so-far rest =
-      let whole : take i ids ++ replicate (16 - i) 0 ≡ ids = rw rest at (take-append-drop i ids) in
-      rw (length-take-le i ids (omega arith), whole)
+  groups-so-far rest = let m = made-so-far ids i 16 0 rest long room in rw (m .0, m .1)
 
 pub rest-empty : (ids : List ℕ) (i x : ℕ) → i < 16 → drop i ids ≡ replicate (16 - i) 0 → drop (i + 1) (set ids i x) ≡ replicate (16 - (i + 1)) 0
-rest-empty ids i x h rest =
-    let z : 16 - i ≡ suc (16 - (i + 1)) = omega arith in
-    let e : drop i ids ≡ replicate (suc (16 - (i + 1))) 0 = rw z at rest in
-    drop-set-lt (i + 1) ids i x (omega arith) ∙ sym (drop-drop 1 i ids) ∙ ap (drop 1) e
-
--- ---- groups in front of the groups of a list
-prepended : List ℕ → Option (List ℕ) → Option (List ℕ)
-prepended xs none = none
-prepended xs (some ys) = some (xs ++ ys)
-
-prepended-nothing : (o : Option (List ℕ)) → prepended [] o ≡ o
-unfolding prepended
-prepended-nothing none = refl
-prepended-nothing (some ys) = refl
-
-prepended-next : (xs : List ℕ) (x : ℕ) (o : Option (List ℕ)) → prepended xs (consOf (some x) o) ≡ prepended (xs ++ (x ∷ [])) o
-unfolding prepended consOf
-prepended-next xs x none = refl
-prepended-next xs x (some ys) = ap some (sym (append-assoc xs (x ∷ []) ys))
+rest-empty ids i x h rest = collected-rest ids i 16 0 rest x h
 
 -- the kernel IDs of a list, of which the first i are in ids
 pub kernelFrom : State → ℕ → List ℕ → List ℕ → ℕ → Option (List ℕ)
-kernelFrom s n list ids i = prepended (take i ids) (kernelGroups s n (drop i list))
+kernelFrom s n list ids i = allFrom (λ (x : ℕ). toOption (toKernel s Group n x)) list ids i
 
 module _ (s : State) (n : ℕ) (list ids : List ℕ) where
   pub kernel-starts : kernelGroups s n list ≡ kernelFrom s n list ids 0
-  unfolding kernelFrom
-  kernel-starts = sym (prepended-nothing (kernelGroups s n list))
+  unfolding kernelFrom kernelGroups
+  kernel-starts = all-starts _ list ids
 
   module _ (i : ℕ) (inv : kernelGroups s n list ≡ kernelFrom s n list ids i) where
     pub kernel-ends : length list ≤ i → length list ≤ 16 → i ≤ length list → length ids ≡ 16 → drop i ids ≡ replicate (16 - i) 0
         → _≡_ {A = Listed} (record { mapped = true; groups = record { count = i; ids = ids } }) (listedOf (kernelGroups s n list))
-    unfolding kernelFrom kernelGroups allOf prepended
+    unfolding kernelFrom kernelGroups
     kernel-ends h k b long rest =
         let so-far : _≡_ {A = GroupList} (record { count = i; ids = ids }) (groupList (take i ids)) = groups-so-far ids i long (omega arith) rest in
-        let all : kernelGroups s n list ≡ some (take i ids) = inv ∙ rw (drop-of-length-le list {i = i} h, append-nil) in
-        rw (all, so-far)
+        rw (all-ends _ list ids i inv h, so-far)
 
     module _ (h : i < length list) (r : Translated) (found : r ≡ toKernel s Group n (getD list i 0)) where
-      kernel-step : kernelGroups s n list ≡ prepended (take i ids) (consOf (toOption r) (kernelGroups s n (drop (i + 1) list)))
-      unfolding kernelFrom kernelGroups allOf
-      kernel-step = inv ∙ rw (drop-cons list i 0 h, add-one, found)
-
       pub kernel-unmapped : (a : Listed) → r ≡ Unmapped → a ≡ listedOf none → a ≡ listedOf (kernelGroups s n list)
-      unfolding prepended consOf
-      kernel-unmapped a e q = let nothing : kernelGroups s n list ≡ none = kernel-step ∙ rw e in q ∙ sym (ap listedOf nothing)
+      unfolding kernelFrom kernelGroups
+      kernel-unmapped a e q = q ∙ sym (ap listedOf (all-none _ list ids i inv 0 h (ap toOption (sym found ∙ e))))
 
       pub kernel-next : (x : ℕ) → r ≡ Id x → length list ≤ 16 → length ids ≡ 16 → kernelGroups s n list ≡ kernelFrom s n list (set ids i x) (i + 1)
-      unfolding kernelFrom
-      kernel-next x e k long =
-          kernel-step
-          ∙ rw (e, prepended-next (take i ids) x (kernelGroups s n (drop (i + 1) list)), add-one, take-suc-set ids i x (omega arith))
+      unfolding kernelFrom kernelGroups
+      kernel-next x e k long = all-next _ list ids i inv 0 h x (ap toOption (sym found ∙ e)) (omega arith)
 
 -- ---- none_listed, with_list
 pub listed-none : _≡_ {A = Listed} (record { mapped = false; groups = record { count = 0; ids = replicate 16 0 } }) (listedOf none)

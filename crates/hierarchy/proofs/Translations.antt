@@ -1,19 +1,21 @@
 -- Translation, step by step, in the words of the code: each law's premises are what a place knows. Assumes nothing.
 use Prim.Native.Nat.{ℕ, zero, suc, _-_, _≤_, _<_}
 use mathlib.Core.Path.{_≡_, refl, sym, ap, _∙_}
-use mathlib.Core.List.{List}
+use mathlib.Core.List.{List, [], _∷_}
 use native.Mathlib.Omega.{arith}
+use lib.ListN.{length}
 use borrow.Author.Needs.{needs}
 use borrow.Author.Tests.{eq-eqb, ne-eqb}
 use Rattle.idmap.specs.declared.Line.{Line}
 use Rattle.idmap.specs.declared.Translated.{Translated}
 use Rattle.idmap.specs.declared.Translated.the-variants.{Id, Unmapped}
-use Rattle.idmap.specs.Lookup.{out, back}
+use Rattle.idmap.specs.Line.{linesIn}
+use Rattle.idmap.specs.Lookup.{out, thenId, back}
 use Rattle.records.specs.declared.Kind.{Kind}
 use Rattle.records.specs.declared.Namespace.{Namespace}
 use Rattle.records.specs.Records.{mapIn, linesOf}
 use Rattle.tables.specs.Tables.{State, namespaceAt}
-use Rattle.hierarchy.specs.Walks.{heightOf, itself, thenId, outIn, toKernel, backIn, fromKernel}
+use Rattle.hierarchy.specs.Walks.{heightOf, itself, outIn, atOnce, kernelLines, toKernel, backIn, fromKernel}
 
 -- ---- height
 module _ (s : State) (place : ℕ) (n : Namespace) (read : n ≡ namespaceAt s place) where
@@ -34,8 +36,7 @@ itself-same x e = rw (ne-eqb x 4294967295 e)
 
 -- ---- going out: the answer at each way out of a turn, and that a turn keeps it
 module _ (s : State) (kind : Kind) where
-  pub out-starts : (n x k : ℕ) → k ≡ heightOf s n → outIn s kind k n x ≡ toKernel s kind n x
-  unfolding toKernel
+  pub out-starts : (n x k : ℕ) → k ≡ heightOf s n → outIn s kind k n x ≡ outIn s kind (heightOf s n) n x
   out-starts n x k e = rw e
 
   out-root : (k n x : ℕ) → n ≡ 0 → outIn s kind k n x ≡ itself x
@@ -67,10 +68,6 @@ module _ (s : State) (kind : Kind) where
 
 -- ---- coming back
 module _ (s : State) (kind : Kind) where
-  pub back-starts : (n y k : ℕ) (r : Translated) → k ≡ heightOf s n → r ≡ backIn s kind k n y → r ≡ fromKernel s kind n y
-  unfolding fromKernel
-  back-starts n y k r e a = a ∙ rw e
-
   back-root : (k n y : ℕ) → n ≡ 0 → backIn s kind k n y ≡ itself y
   unfolding backIn
   back-root zero n y e = rw (eq-eqb n 0 e)
@@ -100,15 +97,56 @@ module _ (s : State) (kind : Kind) where
             f ≡ Id z → ls ≡ linesOf (mapIn kind (namespaceAt s n)) → r ≡ back ls z → r ≡ backIn s kind k n y
         back-on z ls r e lines found = sym (back-step ∙ rw (e, ← lines) (sym found))
 
+-- ---- at once, or level by level
+some-lines : (ws : List ℕ) (a b : Translated) → 3 ≤ length ws → atOnce (linesIn ws) a b ≡ a
+unfolding linesIn
+some-lines [] a b h = absurd (omega arith)
+some-lines (u ∷ []) a b h = absurd (omega arith)
+some-lines (u ∷ v ∷ []) a b h = absurd (omega arith)
+some-lines (u ∷ v ∷ w ∷ ws) a b h = refl
+
+no-lines : (ws : List ℕ) (a b : Translated) → length ws < 3 → atOnce (linesIn ws) a b ≡ b
+unfolding linesIn
+no-lines [] a b h = refl
+no-lines (u ∷ []) a b h = refl
+no-lines (u ∷ v ∷ []) a b h = refl
+no-lines (u ∷ v ∷ w ∷ ws) a b h = absurd (omega arith)
+
+module _ (s : State) (kind : Kind) (n x : ℕ) (r : Translated) where
+  pub to-root : n ≡ 0 → r ≡ itself x → r ≡ toKernel s kind n x
+  unfolding toKernel
+  to-root z e = e ∙ sym (rw (eq-eqb n 0 z))
+
+  pub from-root : n ≡ 0 → r ≡ itself x → r ≡ fromKernel s kind n x
+  unfolding fromKernel
+  from-root z e = e ∙ sym (rw (eq-eqb n 0 z))
+
+  module _ (below : n ≡ 0 → ⊥) (ws : List ℕ) (read : linesIn ws ≡ kernelLines s kind n) where
+    pub to-once : 3 ≤ length ws → r ≡ out (linesIn ws) x → r ≡ toKernel s kind n x
+    unfolding toKernel
+    to-once h e = e ∙ sym (rw (ne-eqb n 0 below, ← read) (some-lines ws (out (linesIn ws) x) (outIn s kind (heightOf s n) n x) h))
+
+    pub to-levels : length ws < 3 → r ≡ outIn s kind (heightOf s n) n x → r ≡ toKernel s kind n x
+    unfolding toKernel
+    to-levels h e = e ∙ sym (rw (ne-eqb n 0 below, ← read) (no-lines ws (out (linesIn ws) x) (outIn s kind (heightOf s n) n x) h))
+
+    pub from-once : 3 ≤ length ws → r ≡ back (linesIn ws) x → r ≡ fromKernel s kind n x
+    unfolding fromKernel
+    from-once h e = e ∙ sym (rw (ne-eqb n 0 below, ← read) (some-lines ws (back (linesIn ws) x) (backIn s kind (heightOf s n) n x) h))
+
+    pub from-levels : (k : ℕ) → length ws < 3 → k ≡ heightOf s n → r ≡ backIn s kind k n x → r ≡ fromKernel s kind n x
+    unfolding fromKernel
+    from-levels k h q e = e ∙ rw q (sym (rw (ne-eqb n 0 below, ← read) (no-lines ws (back (linesIn ws) x) (backIn s kind (heightOf s n) n x) h)))
+
 -- ---- namespace 0 translates to itself and back, whatever its maps say
 module _ (s : State) (kind : Kind) where
   pub to-kernel-root : (x : ℕ) → toKernel s kind 0 x ≡ itself x
   unfolding toKernel
-  to-kernel-root x = out-root s kind (heightOf s 0) 0 x refl
+  to-kernel-root x = refl
 
   pub from-kernel-root : (y : ℕ) → fromKernel s kind 0 y ≡ itself y
   unfolding fromKernel
-  from-kernel-root y = back-root s kind (heightOf s 0) 0 y refl
+  from-kernel-root y = refl
 
 pub ruleset translations = (
   height-level,
@@ -120,10 +158,15 @@ pub ruleset translations = (
   out-end,
   out-none,
   out-on,
-  back-starts,
   back-at-root,
   back-end,
   back-none,
   back-on,
+  to-root,
+  to-once,
+  to-levels,
+  from-root,
+  from-once,
+  from-levels,
   needs,
 )

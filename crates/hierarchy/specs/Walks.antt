@@ -1,16 +1,18 @@
 -- Walks along the hierarchy of namespaces: document 01, 'Translation' and 'Who holds a capability'. Assumes nothing.
 use Prim.Native.Nat.{ℕ, zero, suc, min}
 use mathlib.Core.Bool.{Bool, true, false, cond, _&&_}
+use mathlib.Core.List.{List, [], _∷_}
 use lib.Dec.{eqb}
 use Rattle.capability.specs.Sets.{holds}
+use Rattle.idmap.specs.declared.Line.{Line}
 use Rattle.idmap.specs.declared.Translated.{Translated}
 use Rattle.idmap.specs.declared.Translated.the-variants.{Id, Unmapped}
 use Rattle.idmap.specs.Good.{noId}
-use Rattle.idmap.specs.Lookup.{out, back}
+use Rattle.idmap.specs.Lookup.{out, thenId, back}
 use Rattle.records.specs.declared.Kind.{Kind}
 use Rattle.records.specs.declared.Process.{Process}
 use Rattle.records.specs.declared.Namespace.{Namespace}
-use Rattle.tables.specs.Tables.{State, namespaceAt}
+use Rattle.tables.specs.Tables.{State, namespaceAt, kernelMapAt}
 use Rattle.records.specs.Records.{mapIn, linesOf}
 
 -- how many steps lead from a namespace to the initial one: its level, which reaches 32 at most
@@ -21,20 +23,25 @@ heightOf s n = min (namespaceAt s n .level) 32
 abbrev pub itself : ℕ → Translated
 itself x = cond (eqb x noId) Unmapped (Id x)
 
--- what follows an ID, or unmapped where there is none
-abbrev pub thenId : Translated → (ℕ → Translated) → Translated
-thenId (Id x) next = next x
-thenId Unmapped next = Unmapped
-
 -- document 01: going out, level by level, from namespace n to namespace 0, in k steps at most
 unfoldable pub outIn : State → Kind → ℕ → ℕ → ℕ → Translated
 outIn s kind zero n x = cond (eqb n 0) (itself x) Unmapped
 outIn s kind (suc k) n x =
     cond (eqb n 0) (itself x) (thenId (out (linesOf (mapIn kind (namespaceAt s n))) x) (λ y. outIn s kind k (namespaceAt s n .parent) y))
 
--- the kernel ID (document 01: station-wide ID) that an ID of namespace n stands for
+-- the kernel lines of a namespace say it at once, for all levels, where there are some
+abbrev pub atOnce : List Line → Translated → Translated → Translated
+atOnce [] once levels = levels
+atOnce (l ∷ ls) once levels = once
+
+abbrev pub kernelLines : State → Kind → ℕ → List Line
+kernelLines s kind n = linesOf (kernelMapAt s kind n)
+
+-- the kernel ID (document 01: station-wide ID) that an ID of namespace n stands for. That it is the one that going out level by level gives is
+-- proved of the tables that calls leave: claims, `Bounds`
 unfoldable pub toKernel : State → Kind → ℕ → ℕ → Translated
-toKernel s kind n x = outIn s kind (heightOf s n) n x
+toKernel s kind n x =
+    cond (eqb n 0) (itself x) (atOnce (kernelLines s kind n) (out (kernelLines s kind n) x) (outIn s kind (heightOf s n) n x))
 
 -- document 01: coming back, from namespace 0 down to namespace n
 unfoldable pub backIn : State → Kind → ℕ → ℕ → ℕ → Translated
@@ -44,7 +51,8 @@ backIn s kind (suc k) n y =
 
 -- the ID of namespace n that stands for a kernel ID
 unfoldable pub fromKernel : State → Kind → ℕ → ℕ → Translated
-fromKernel s kind n y = backIn s kind (heightOf s n) n y
+fromKernel s kind n y =
+    cond (eqb n 0) (itself y) (atOnce (kernelLines s kind n) (back (kernelLines s kind n) y) (backIn s kind (heightOf s n) n y))
 
 -- ---- who holds a capability
 -- the second rule: the namespace's parent is the process's own, and its owner is the process's effective user

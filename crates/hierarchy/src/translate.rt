@@ -7,6 +7,7 @@ use idmap::lookup::lookup_back;
 use idmap::lookup::lookup_out;
 use records::Kind;
 use tables::Tables;
+use tables::kernel_maps::kernel_lines;
 use tables::namespaces::map_lines;
 use tables::namespaces::namespace_at;
 
@@ -29,9 +30,9 @@ fn same(id: u32) -> Translated
     }
 }
 
-// The kernel ID that an ID of a namespace stands for. Linux: make_kuid, make_kgid.
-pub fn to_kernel(t: &Tables, kind: Kind, place: u64, id: u32) -> Translated
-    ensures { λ r. ⌜ r ≡ toKernel (tablesOf (now (t .entry))) kind place id ⌝ }
+// The kernel ID of an ID, level by level.
+fn up(t: &Tables, kind: Kind, place: u64, id: u32) -> Translated
+    ensures { λ r. ⌜ r ≡ outIn (tablesOf (now (t .entry))) kind (heightOf (tablesOf (now (t .entry))) place) place id ⌝ }
 {
     let mut left = height(t, place);
     let mut at = place;
@@ -52,6 +53,20 @@ pub fn to_kernel(t: &Tables, kind: Kind, place: u64, id: u32) -> Translated
         at = n.parent;
         left -= 1;
     }
+}
+
+// The kernel ID that an ID of a namespace stands for. Linux: make_kuid, make_kgid.
+pub fn to_kernel(t: &Tables, kind: Kind, place: u64, id: u32) -> Translated
+    ensures { λ r. ⌜ r ≡ toKernel (tablesOf (now (t .entry))) kind place id ⌝ }
+{
+    if place == 0 {
+        return same(id);
+    }
+    let lines = kernel_lines(t, place as usize, kind);
+    if 3 <= lines.len() {
+        return lookup_out(lines, id);
+    }
+    up(t, kind, place, id)
 }
 
 // The ID of the namespace at `at`, `left` steps at most below the initial one, that stands for a kernel ID.
@@ -76,5 +91,12 @@ fn down(t: &Tables, kind: Kind, left: u64, at: u64, id: u32) -> Translated
 pub fn from_kernel(t: &Tables, kind: Kind, place: u64, id: u32) -> Translated
     ensures { λ r. ⌜ r ≡ fromKernel (tablesOf (now (t .entry))) kind place id ⌝ }
 {
+    if place == 0 {
+        return same(id);
+    }
+    let lines = kernel_lines(t, place as usize, kind);
+    if 3 <= lines.len() {
+        return lookup_back(lines, id);
+    }
     down(t, kind, height(t, place), place, id)
 }

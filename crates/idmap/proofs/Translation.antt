@@ -51,7 +51,7 @@ module _ (l : Line) (w : Bounded l) (x : ℕ) (small : x < 2 ^ 32) (t : inRange 
       rw moved-is (omega arith)
 
 -- what lines that lie apart from l give, l does not hold on the parent side
-away : (l : Line) (ls : List Line) (x y : ℕ) → Bounded l → x < 2 ^ 32 → allApart l ls ≡ true → goodOf ls ≡ true → out ls x ≡ Id y → inRange y (l .parent) (l .count) ≡ false
+pub away : (l : Line) (ls : List Line) (x y : ℕ) → Bounded l → x < 2 ^ 32 → allApart l ls ≡ true → goodOf ls ≡ true → out ls x ≡ Id y → inRange y (l .parent) (l .count) ≡ false
 unfolding out
 away l [] x y w small a s e = absurd (two-answers e)
 away l (m ∷ ls) x y w small a s e =

@@ -16,6 +16,11 @@ unfoldable pub out : List Line → ℕ → Translated
 out [] id = Unmapped
 out (l ∷ ls) id = cond (inRange id (l .inside) (l .count)) (Id (movedBy l id)) (out ls id)
 
+-- what follows an ID, or unmapped where there is none
+abbrev pub thenId : Translated → (ℕ → Translated) → Translated
+thenId (Id x) next = next x
+thenId Unmapped next = Unmapped
+
 -- a line with its two sides exchanged, and the same where a flag asks for it
 abbrev pub flip : Line → Line
 flip l = record { inside = l .parent; parent = l .inside; count = l .count }

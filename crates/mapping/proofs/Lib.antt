@@ -1,3 +1,4 @@
+pub mod KernelMaps
 pub mod Writes
 pub mod Reading
 pub mod Settings

@@ -1,11 +1,11 @@
 -- The write of a map, in the words of the code: a law for each test, each refusal and the success. Assumes nothing.
 use Prim.Native.Nat.{ℕ, zero, suc, _+_, _-_, _≤_, _<_}
 use mathlib.Core.Path.{_≡_, refl, sym, ap, _∙_}
-use mathlib.Core.Bool.{Bool, true, false, cond, _&&_, _||_}
-use mathlib.Core.List.{List, [], _∷_, _++_}
+use mathlib.Core.Bool.{Bool, true, false, _&&_}
+use mathlib.Core.List.{List, [], _∷_}
 use mathlib.Core.Option.{Option, none, some}
 use native.Mathlib.Omega.{arith}
-use lib.Dec.{eqb, ltb}
+use lib.Dec.{eqb}
 use lib.ListN.{length, take, drop, getD, replicate}
 use lib.Seq.{take-append-seam}
 use borrow.Author.Needs.{needs}
@@ -33,12 +33,12 @@ use Rattle.tables.specs.declared.answer.Answer.{Answer}
 use Rattle.tables.specs.declared.answer.Answer.the-variants.{Refused, Done}
 use Rattle.tables.specs.declared.find.Found.{Found}
 use Rattle.tables.specs.declared.find.Found.the-variants.{At, Nothing}
-use Rattle.tables.specs.Tables.{State, tablesOf, processAt, namespaceAt, putNamespace}
+use Rattle.tables.specs.Tables.{State, tablesOf, processAt, namespaceAt, putNamespace, putKernelMap}
 use Rattle.tables.specs.Find.{processNamed}
 use Rattle.tables.specs.Reply.{Outcome, Promise}
 use Rattle.tables.proofs.Promises.{refuses, answers}
-use Rattle.hierarchy.specs.Walks.{toKernel, capableIn}
-use Rattle.mapping.specs.Calls.{isNear, isId, mayByKind, singleLine, mayMap, allCovered, withMap, writtenMap, writeLinesTo, writeMapTo, writeMapOf}
+use Rattle.hierarchy.specs.Walks.{kernelLines, toKernel, capableIn}
+use Rattle.mapping.specs.Calls.{isNear, isId, mayByKind, singleLine, mayMap, allCovered, kernelMapOf, withMap, writtenMap, mappedTables, writeLinesTo, writeMapTo, writeMapOf}
 
 -- ---- near
 module _ (s : State) (w : Process) (n : ℕ) where
@@ -185,11 +185,15 @@ module _ (l text : List ℕ) (kind : Kind) (w : Process) (n : ℕ) (r : MapText)
         unfolding writeLinesTo
         lines-uncovered z = refuses EPERM l (writeLinesTo (tablesOf l) kind w n text) (sym (rw (read-lines, ← q, y, ← tgt, ← cover-is, z)))
 
-        pub lines-done : (new : Namespace) (l′ : List ℕ) → u ≡ true → new ≡ withMap kind m (record { state = Written k; lines = r .lines }) → tablesOf l′ ≡ putNamespace (tablesOf l) n new → Promise Done l l′ (writeLinesTo (tablesOf l) kind w n text)
-        unfolding writeLinesTo
-        lines-done new l′ z e p =
-            answers Done l l′ (writeLinesTo (tablesOf l) kind w n text) refl
-            (rw (read-lines, ← q, y, ← tgt, ← cover-is, z, p, e, read-map))
+        pub lines-done : (new : Namespace) (l′ l″ ws′ : List ℕ) (kernel : IdMap) → u ≡ true
+            → linesIn ws′ ≡ kernelLines (tablesOf l) kind (m .parent) → kernel ≡ kernelMapOf (linesIn ws′) (take k (r .lines))
+            → new ≡ withMap kind m (record { state = Written k; lines = r .lines })
+            → tablesOf l′ ≡ putNamespace (tablesOf l) n new → tablesOf l″ ≡ putKernelMap (tablesOf l′) kind n kernel
+            → Promise Done l l″ (writeLinesTo (tablesOf l) kind w n text)
+        unfolding writeLinesTo mappedTables
+        lines-done new l′ l″ ws′ kernel z high c e p p′ =
+            answers Done l l″ (writeLinesTo (tablesOf l) kind w n text) refl
+            (rw (read-lines, ← q, y, ← tgt, ← cover-is, z, p′, p, e, read-map, c, high))
 
 -- ---- write_to
 -- a promise of one outcome is one of an equal outcome

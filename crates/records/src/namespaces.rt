@@ -76,7 +76,7 @@ fn map_of(words: &[u64]) -> IdMap
 }
 
 // The words that are read as a map.
-fn map_words(m: IdMap) -> [u64; 17]
+pub fn map_words(m: IdMap) -> [u64; 17]
     ensures { λ r. ⌜ mapOf r ≡ m ⌝ }
 {
     let state = m.state;

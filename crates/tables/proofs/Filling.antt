@@ -1,19 +1,23 @@
 -- The initial tables, filled place by place. Assumes nothing.
 use Prim.Native.Nat.{ℕ, _+_, _-_, _≤_, _<_}
 use mathlib.Core.Path.{_≡_, refl, sym, ap, _∙_}
-use mathlib.Core.List.{List, [], _∷_, _++_, append-nil}
+use mathlib.Core.List.{List, append-nil}
+use mathlib.Core.Bool.{true, false}
 use native.Mathlib.Nat.{zero-add}
 use native.Mathlib.Numerals.{add-one}
 use native.Mathlib.Omega.{arith}
-use lib.ListN.{length, getD, set, take, drop, replicate, length-replicate, drop-of-length-le}
-use lib.Seq.{paste, paste-zero, paste-suc, take-all, getD-set-same}
+use lib.ListN.{length, getD, set, replicate, drop-of-length-le}
+use lib.Seq.{paste, paste-zero, paste-suc, take-all}
 use lib.ListN.{getD-replicate}
 use borrow.Author.Needs.{needs}
 use Rattle.records.specs.declared.Process.{Process}
 use Rattle.records.specs.declared.Namespace.{Namespace}
-use Rattle.records.specs.Records.{freeProcess, freeNamespace}
-use Rattle.tables.specs.Tables.{State, tablesOf, processAt, putProcess, putNamespace, withProcesses, withNamespaces, firstProcess, rootNamespace, initialTables}
-use Rattle.tables.proofs.Tables.{length-processes, length-namespaces}
+use Rattle.records.specs.declared.IdMap.{IdMap}
+use Rattle.records.specs.declared.Kind.{Kind}
+use Rattle.records.specs.declared.Kind.the-variants.{User, Group}
+use Rattle.records.specs.Records.{freeProcess, freeMap, freeNamespace}
+use Rattle.tables.specs.Tables.{State, tablesOf, kernelMaps, putProcess, putNamespace, putKernelMap, withProcesses, withNamespaces, withKernelMaps, firstProcess, fixedMap, rootNamespace, firstKernelMaps, initialTables}
+use Rattle.tables.proofs.Tables.{length-processes, length-namespaces, length-kernel-maps}
 
 module _ {A : Type 0} (qs ps : List A) where
   fill-more : (i : ℕ) (d : A) → i < length qs → i < length ps → set (paste qs 0 ps i) i (getD ps i d) ≡ paste qs 0 ps (i + 1)
@@ -80,9 +84,47 @@ module _ (l : List ℕ) where
         let k = length-namespaces l in
         e ∙ rw (q, inv, fill-all (tablesOf l .namespaces) (replicate 64 freeNamespace) i (omega arith) h)
 
--- ---- both
-pub both-filled : (s₀ s₁ s₂ : State) → s₁ ≡ withProcesses s₀ (initialTables .processes) → s₂ ≡ withNamespaces s₁ (initialTables .namespaces) → s₂ ≡ initialTables
-both-filled s₀ s₁ s₂ e q = q ∙ rw e
+-- ---- kernel maps, of a kind
+pub kernelMapsIn : State → Kind → ℕ → State
+kernelMapsIn s k i = withKernelMaps s k (paste (kernelMaps k s) 0 (replicate 64 freeMap) i)
+
+-- lists put one after the other: the last one stands
+put-again : (s : State) (k : Kind) (ms : List IdMap) (i : ℕ) (m : IdMap) → putKernelMap (withKernelMaps s k ms) k i m ≡ withKernelMaps s k (set ms i m)
+put-again s User ms i m = refl
+put-again s Group ms i m = refl
+
+put-none : (s : State) (k : Kind) → s ≡ withKernelMaps s k (kernelMaps k s)
+put-none s User = refl
+put-none s Group = refl
+
+module _ (l : List ℕ) (k : Kind) where
+  pub kernel-maps-none : tablesOf l ≡ kernelMapsIn (tablesOf l) k 0
+  unfolding kernelMapsIn
+  kernel-maps-none = put-none (tablesOf l) k ∙ ap (withKernelMaps (tablesOf l) k) (paste-zero (kernelMaps k (tablesOf l)) 0 (replicate 64 freeMap))
+
+  module _ (l′ : List ℕ) (i : ℕ) (inv : tablesOf l′ ≡ kernelMapsIn (tablesOf l) k i) where
+    pub kernel-maps-more : (free : IdMap) (s : State) → i < 64 → free ≡ freeMap → s ≡ putKernelMap (tablesOf l′) k i free → s ≡ kernelMapsIn (tablesOf l) k (i + 1)
+    unfolding kernelMapsIn
+    kernel-maps-more free s h q e =
+        let j = length-kernel-maps k l in
+        let d : getD (replicate 64 freeMap) i freeMap ≡ freeMap = getD-replicate 64 i freeMap freeMap h in
+        let ms = paste (kernelMaps k (tablesOf l)) 0 (replicate 64 freeMap) i in
+        e ∙ rw (q, inv) (put-again (tablesOf l) k ms i freeMap ∙ ap (λ (m : IdMap). withKernelMaps (tablesOf l) k (set ms i m)) (sym d) ∙ ap (withKernelMaps (tablesOf l) k) (fill-more (kernelMaps k (tablesOf l)) (replicate 64 freeMap) i freeMap (omega arith) h))
+
+    pub kernel-maps-all : (fixed : IdMap) (s : State) → 64 ≤ i → fixed ≡ fixedMap → s ≡ putKernelMap (tablesOf l′) k 0 fixed → s ≡ withKernelMaps (tablesOf l) k firstKernelMaps
+    unfolding kernelMapsIn firstKernelMaps
+    kernel-maps-all fixed s h q e =
+        let j = length-kernel-maps k l in
+        e ∙ rw (q, inv, fill-all (kernelMaps k (tablesOf l)) (replicate 64 freeMap) i (omega arith) h) (put-again (tablesOf l) k (replicate 64 freeMap) 0 fixedMap)
+
+-- ---- the root, and all
+pub root-made : (m : IdMap) → m ≡ fixedMap → record { live = true; parent = 0; level = 0; owner = 0; users = m; groups = m; deny = false } ≡ rootNamespace
+root-made m e = rw e
+
+pub all-filled : (s₀ s₁ s₂ s₃ s₄ : State) → s₁ ≡ withProcesses s₀ (initialTables .processes) → s₂ ≡ withNamespaces s₁ (initialTables .namespaces)
+    → s₃ ≡ withKernelMaps s₂ User firstKernelMaps → s₄ ≡ withKernelMaps s₃ Group firstKernelMaps → s₄ ≡ initialTables
+unfolding initialTables
+all-filled s₀ s₁ s₂ s₃ s₄ e q u g = g ∙ rw (u, q, e)
 
 pub ruleset filling = (
   places-are,
@@ -92,6 +134,10 @@ pub ruleset filling = (
   namespaces-none,
   namespaces-more,
   namespaces-all,
-  both-filled,
+  kernel-maps-none,
+  kernel-maps-more,
+  kernel-maps-all,
+  root-made,
+  all-filled,
   needs,
 )

@@ -1,27 +1,21 @@
--- The written lines of a namespace's map, where they stand in the tables. Assumes nothing.
+-- The written lines of a namespace's map, and those of its kernel map, where they stand in the tables. Assumes nothing.
 use Prim.Native.Nat.{ℕ, zero, suc, _+_, _-_, _*_, _≤_, _<_}
-use mathlib.Core.Path.{_≡_, refl, sym, ap, ap₂, _∙_}
+use mathlib.Core.Path.{_≡_, refl, sym, ap, _∙_}
 use mathlib.Core.List.{List, [], _∷_}
-use native.Mathlib.Nat.{suc-mul}
-use native.Mathlib.Numerals.{add-one, add-two, add-three}
 use native.Mathlib.Omega.{arith}
-use lib.Dec.{eqb}
-use lib.ListN.{length, getD, take, drop}
-use lib.Seq.{drop-cons, drop-drop, take-take, take-nil}
+use lib.ListN.{length, take, drop}
+use lib.Seq.{drop-drop, take-take, take-nil}
 use borrow.Author.Needs.{needs}
-use borrow.Author.Tests.{eq-eqb, ne-eqb}
 use Rattle.prelude.specs.Parts.{part}
 use Rattle.prelude.proofs.Parts.{length-part}
-use Rattle.idmap.specs.declared.Line.{Line}
-use Rattle.idmap.specs.Line.{lineOfWords, lineAt, linesIn}
-use Rattle.rows.specs.Rows.{rows, tab}
+use Rattle.idmap.specs.Line.{linesIn}
 use Rattle.rows.proofs.Rows.{row-get, row-none}
 use Rattle.records.proofs.Records.{map-whole}
 use Rattle.records.specs.declared.IdMap.{IdMap}
 use Rattle.records.specs.declared.Kind.{Kind}
 use Rattle.records.specs.declared.Kind.the-variants.{User, Group}
-use Rattle.records.specs.Records.{mapOf, mapFrom, namespaceOf, freeNamespace, mapIn, linesOf}
-use Rattle.tables.specs.Tables.{tablesOf, namespaceAt}
+use Rattle.records.specs.Records.{mapOf, mapFrom, freeMap, namespaceOf, freeNamespace, mapIn, linesOf}
+use Rattle.tables.specs.Tables.{tablesOf, namespaceAt, kernelMapAt}
 
 -- ---- map_lines
 -- a part of a part
@@ -49,7 +43,7 @@ module _ (l : List ℕ) (place : ℕ) where
   map-at : (a : ℕ) → a + 17 ≤ 39 → take 17 (drop a (part 39 (3456 + place * 39) l)) ≡ part 17 (3456 + place * 39 + a) l
   map-at a h = part-part 17 a 39 (3456 + place * 39) l h
 
-  module _ (long : length l ≡ 5952) (h : place < 64) (w : List ℕ) where
+  module _ (long : length l ≡ 8128) (h : place < 64) (w : List ℕ) where
     module _ (k : Kind) (r : List ℕ) (read : linesIn r ≡ linesOf (mapFrom w)) where
       pub lines-users : w ≡ part 17 (3460 + place * 39) l → k ≡ User → linesIn r ≡ linesOf (mapIn k (namespaceAt (tablesOf l) place))
       unfolding tablesOf namespaceAt
@@ -67,4 +61,26 @@ module _ (l : List ℕ) (place : ℕ) where
           let whole = map-whole w (rw e (length-part 17 (3477 + place * 39) l (omega arith))) in
           read ∙ ap (λ (m : IdMap). linesOf m) whole ∙ rw (q, row-get namespaceOf 39 64 3456 l place freeNamespace (3456 + place * 39) refl h) (ap (λ (v : List ℕ). linesOf (mapOf v)) same)
 
+-- ---- kernel_lines
+module _ (l : List ℕ) (place : ℕ) where
+  pub kernel-past : (k : Kind) (r : List ℕ) → 64 ≤ place → r ≡ part 0 0 l → linesIn r ≡ linesOf (kernelMapAt (tablesOf l) k place)
+  unfolding part linesIn tablesOf kernelMapAt
+  kernel-past User r h q = ap linesIn q ∙ sym (rw (row-none mapOf 17 64 5952 l place freeMap h))
+  kernel-past Group r h q = ap linesIn q ∙ sym (rw (row-none mapOf 17 64 7040 l place freeMap h))
+
+  module _ (long : length l ≡ 8128) (h : place < 64) (w : List ℕ) (k : Kind) (r : List ℕ) (read : linesIn r ≡ linesOf (mapFrom w)) where
+    pub kernel-users : w ≡ part 17 (5952 + place * 17) l → k ≡ User → linesIn r ≡ linesOf (kernelMapAt (tablesOf l) k place)
+    unfolding tablesOf kernelMapAt
+    kernel-users e q =
+        let whole = map-whole w (rw e (length-part 17 (5952 + place * 17) l (omega arith))) in
+        read ∙ ap (λ (m : IdMap). linesOf m) whole ∙ rw (q, row-get mapOf 17 64 5952 l place freeMap (5952 + place * 17) refl h) (ap (λ (v : List ℕ). linesOf (mapOf v)) e)
+
+    pub kernel-groups : w ≡ part 17 (7040 + place * 17) l → k ≡ Group → linesIn r ≡ linesOf (kernelMapAt (tablesOf l) k place)
+    unfolding tablesOf kernelMapAt
+    kernel-groups e q =
+        let whole = map-whole w (rw e (length-part 17 (7040 + place * 17) l (omega arith))) in
+        read ∙ ap (λ (m : IdMap). linesOf m) whole ∙ rw (q, row-get mapOf 17 64 7040 l place freeMap (7040 + place * 17) refl h) (ap (λ (v : List ℕ). linesOf (mapOf v)) e)
+
 pub ruleset lines = (lines-past, lines-users, lines-groups, needs)
+
+pub ruleset kernel-lines = (kernel-past, kernel-users, kernel-groups, needs)

@@ -1,6 +1,6 @@
 -- Promises: of a call that refuses, and of one that does not. Assumes nothing.
-use Prim.Native.Nat.{ℕ, _+_, _≤_, _<_}
-use mathlib.Core.Path.{_≡_, refl, sym, ap, _∙_}
+use Prim.Native.Nat.{ℕ, _+_, _<_}
+use mathlib.Core.Path.{_≡_, refl, sym, _∙_}
 use mathlib.Core.Bool.{Bool, true, false, false≢true}
 use mathlib.Core.List.{List, [], _∷_}
 use native.Mathlib.Omega.{arith}
@@ -12,10 +12,10 @@ use Rattle.tables.specs.declared.answer.Errno.{Errno}
 use Rattle.tables.specs.declared.answer.Answer.{Answer}
 use Rattle.tables.specs.declared.answer.Answer.the-variants.{Refused}
 use Rattle.tables.specs.declared.find.Found.{Found}
-use Rattle.tables.specs.declared.find.Found.the-variants.{At, Nothing}
-use Rattle.tables.specs.Tables.{State, tablesOf}
+use Rattle.tables.specs.declared.find.Found.the-variants.{At}
+use Rattle.tables.specs.Tables.{tablesOf}
 use Rattle.tables.specs.Find.{freeFrom, freeProcessPlace, freeNamespacePlace}
-use Rattle.tables.specs.Reply.{Reply, numberOf, replyOf, Outcome, refuse, isRefused, Promise}
+use Rattle.tables.specs.Reply.{numberOf, replyOf, Outcome, refuse, isRefused, Promise}
 use Rattle.tables.proofs.Tables.{length-processes, length-namespaces}
 
 -- a refusal: nothing is stored

@@ -1,12 +1,15 @@
 -- Reads after stores: a store changes what its own place reads as, and no other. Assumes nothing.
-use Prim.Native.Nat.{ℕ, _≤_, _<_}
+use Prim.Native.Nat.{ℕ, _<_}
 use mathlib.Core.Path.{_≡_, refl}
 use lib.ListN.{length}
 use lib.Seq.{getD-set-same, getD-set-other}
 use Rattle.records.specs.declared.Process.{Process}
 use Rattle.records.specs.declared.Namespace.{Namespace}
-use Rattle.records.specs.Records.{freeProcess, freeNamespace}
-use Rattle.tables.specs.Tables.{State, processAt, namespaceAt, putProcess, putNamespace}
+use Rattle.records.specs.declared.IdMap.{IdMap}
+use Rattle.records.specs.declared.Kind.{Kind}
+use Rattle.records.specs.declared.Kind.the-variants.{User, Group}
+use Rattle.records.specs.Records.{freeProcess, freeMap, freeNamespace}
+use Rattle.tables.specs.Tables.{State, processAt, namespaceAt, kernelMaps, kernelMapAt, putProcess, putNamespace, putKernelMap}
 
 module _ (s : State) (i : ℕ) (p : Process) where
   pub process-stored : i < length (s .processes) → processAt (putProcess s i p) i ≡ p
@@ -34,3 +37,14 @@ module _ (s : State) (i : ℕ) (n : Namespace) where
   pub namespace-apart : (j : ℕ) → processAt (putNamespace s i n) j ≡ processAt s j
   unfolding processAt
   namespace-apart j = refl
+
+module _ (s : State) (i : ℕ) (m : IdMap) where
+  pub kernel-map-stored : (k : Kind) → i < length (kernelMaps k s) → kernelMapAt (putKernelMap s k i m) k i ≡ m
+  unfolding kernelMapAt
+  kernel-map-stored User h = getD-set-same (s .kernelUsers) i m freeMap h
+  kernel-map-stored Group h = getD-set-same (s .kernelGroups) i m freeMap h
+
+  pub kernel-map-kept : (k : Kind) (j : ℕ) → (j ≡ i → ⊥) → kernelMapAt (putKernelMap s k i m) k j ≡ kernelMapAt s k j
+  unfolding kernelMapAt
+  kernel-map-kept User j h = getD-set-other (s .kernelUsers) i j m freeMap h
+  kernel-map-kept Group j h = getD-set-other (s .kernelGroups) i j m freeMap h

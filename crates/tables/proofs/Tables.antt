@@ -4,7 +4,7 @@ use mathlib.Core.Path.{_≡_, refl, sym, ap, _∙_}
 use mathlib.Core.List.{List}
 use mathlib.Core.Logic.{inl, inr}
 use native.Mathlib.Omega.{arith}
-use lib.ListN.{length, getD, set}
+use lib.ListN.{length, set}
 use borrow.Author.Needs.{needs}
 use Rattle.prelude.specs.Parts.{part, putAt}
 use Rattle.prelude.proofs.Parts.{length-part}
@@ -12,9 +12,12 @@ use Rattle.rows.specs.Rows.{rows}
 use Rattle.rows.proofs.Rows.{row-put, row-get, row-none, row-out, rows-apart, length-rows}
 use Rattle.records.specs.declared.Process.{Process}
 use Rattle.records.specs.declared.Namespace.{Namespace}
-use Rattle.records.specs.Records.{processOf, processFrom, freeProcess, namespaceOf, namespaceFrom, freeNamespace}
+use Rattle.records.specs.declared.IdMap.{IdMap}
+use Rattle.records.specs.declared.Kind.{Kind}
+use Rattle.records.specs.declared.Kind.the-variants.{User, Group}
+use Rattle.records.specs.Records.{processOf, processFrom, freeProcess, mapOf, namespaceOf, namespaceFrom, freeNamespace}
 use Rattle.records.proofs.Records.{process-whole, namespace-whole}
-use Rattle.tables.specs.Tables.{State, tablesOf, processAt, namespaceAt, putProcess, putNamespace}
+use Rattle.tables.specs.Tables.{State, tablesOf, processAt, namespaceAt, kernelMaps, putProcess, putNamespace, putKernelMap}
 
 pub length-processes : (l : List ℕ) → length (tablesOf l .processes) ≡ 128
 unfolding tablesOf
@@ -24,11 +27,17 @@ pub length-namespaces : (l : List ℕ) → length (tablesOf l .namespaces) ≡ 6
 unfolding tablesOf
 length-namespaces l = length-rows namespaceOf 39 64 3456 l
 
-state : {ps ps′ : List Process} {ns ns′ : List Namespace} → ps ≡ ps′ → ns ≡ ns′ → _≡_ {A = State} (record { processes = ps; namespaces = ns }) (record { processes = ps′; namespaces = ns′ })
-state p q = λ i. record { processes = p i; namespaces = q i }
+pub length-kernel-maps : (k : Kind) (l : List ℕ) → length (kernelMaps k (tablesOf l)) ≡ 64
+unfolding tablesOf
+length-kernel-maps User l = length-rows mapOf 17 64 5952 l
+length-kernel-maps Group l = length-rows mapOf 17 64 7040 l
+
+state : {ps ps′ : List Process} {ns ns′ : List Namespace} {us us′ gs gs′ : List IdMap} → ps ≡ ps′ → ns ≡ ns′ → us ≡ us′ → gs ≡ gs′
+    → _≡_ {A = State} (record { processes = ps; namespaces = ns; kernelUsers = us; kernelGroups = gs }) (record { processes = ps′; namespaces = ns′; kernelUsers = us′; kernelGroups = gs′ })
+state p q u g = λ i. record { processes = p i; namespaces = q i; kernelUsers = u i; kernelGroups = g i }
 
 -- ---- loads
-module _ (l row : List ℕ) (i k : ℕ) (long : length l ≡ 5952) where
+module _ (l row : List ℕ) (i k : ℕ) (long : length l ≡ 8128) where
   pub process-get : (p : Process) → row ≡ part 27 k l → k ≡ i * 27 → i < 128 → p ≡ processFrom row → p ≡ processAt (tablesOf l) i
   unfolding tablesOf processAt
   process-get p read at h e =
@@ -57,27 +66,54 @@ module _ (l : List ℕ) (i : ℕ) where
   -- ---- stores
   pub process-out : (p : Process) → 128 ≤ i → tablesOf l ≡ putProcess (tablesOf l) i p
   unfolding tablesOf
-  process-out p h = sym (state (row-out processOf 27 128 0 l i p h) refl)
+  process-out p h = sym (state (row-out processOf 27 128 0 l i p h) refl refl refl)
 
   pub namespace-out : (n : Namespace) → 64 ≤ i → tablesOf l ≡ putNamespace (tablesOf l) i n
   unfolding tablesOf
-  namespace-out n h = sym (state refl (row-out namespaceOf 39 64 3456 l i n h))
+  namespace-out n h = sym (state refl (row-out namespaceOf 39 64 3456 l i n h) refl refl)
 
-  module _ (l′ ws : List ℕ) (long : length l ≡ 5952) where
+  pub kernel-map-out : (k : Kind) (m : IdMap) → 64 ≤ i → tablesOf l ≡ putKernelMap (tablesOf l) k i m
+  unfolding tablesOf
+  kernel-map-out User m h = sym (state refl refl (row-out mapOf 17 64 5952 l i m h) refl)
+  kernel-map-out Group m h = sym (state refl refl refl (row-out mapOf 17 64 7040 l i m h))
+
+  module _ (l′ ws : List ℕ) (long : length l ≡ 8128) where
     pub process-put : (p : Process) → length ws ≡ 27 → i < 128 → processOf ws ≡ p → l′ ≡ putAt l (i * 27) ws → tablesOf l′ ≡ putProcess (tablesOf l) i p
     unfolding tablesOf
     process-put p w h e q =
         rw q
         (state (row-put processOf 27 128 0 l i ws (i * 27) (omega arith) h w (omega arith) ∙ ap (set (rows processOf 27 128 0 l) i) e)
-        (rows-apart namespaceOf 39 64 3456 l (i * 27) ws (inl (omega arith))))
+        (rows-apart namespaceOf 39 64 3456 l (i * 27) ws (inl (omega arith)))
+        (rows-apart mapOf 17 64 5952 l (i * 27) ws (inl (omega arith)))
+        (rows-apart mapOf 17 64 7040 l (i * 27) ws (inl (omega arith))))
 
     pub namespace-put : (n : Namespace) → length ws ≡ 39 → i < 64 → namespaceOf ws ≡ n → l′ ≡ putAt l (3456 + i * 39) ws → tablesOf l′ ≡ putNamespace (tablesOf l) i n
     unfolding tablesOf
     namespace-put n w h e q =
         rw q
         (state (rows-apart processOf 27 128 0 l (3456 + i * 39) ws (inr (omega arith)))
-        (row-put namespaceOf 39 64 3456 l i ws (3456 + i * 39) refl h w (omega arith) ∙ ap (set (rows namespaceOf 39 64 3456 l) i) e))
+        (row-put namespaceOf 39 64 3456 l i ws (3456 + i * 39) refl h w (omega arith) ∙ ap (set (rows namespaceOf 39 64 3456 l) i) e)
+        (rows-apart mapOf 17 64 5952 l (3456 + i * 39) ws (inl (omega arith)))
+        (rows-apart mapOf 17 64 7040 l (3456 + i * 39) ws (inl (omega arith))))
+
+    pub kernel-users-put : (k : Kind) (m : IdMap) → length ws ≡ 17 → i < 64 → k ≡ User → mapOf ws ≡ m → l′ ≡ putAt l (5952 + i * 17) ws → tablesOf l′ ≡ putKernelMap (tablesOf l) k i m
+    unfolding tablesOf
+    kernel-users-put k m w h u e q =
+        rw (q, u)
+        (state (rows-apart processOf 27 128 0 l (5952 + i * 17) ws (inr (omega arith)))
+        (rows-apart namespaceOf 39 64 3456 l (5952 + i * 17) ws (inr (omega arith)))
+        (row-put mapOf 17 64 5952 l i ws (5952 + i * 17) refl h w (omega arith) ∙ ap (set (rows mapOf 17 64 5952 l) i) e)
+        (rows-apart mapOf 17 64 7040 l (5952 + i * 17) ws (inl (omega arith))))
+
+    pub kernel-groups-put : (k : Kind) (m : IdMap) → length ws ≡ 17 → i < 64 → k ≡ Group → mapOf ws ≡ m → l′ ≡ putAt l (7040 + i * 17) ws → tablesOf l′ ≡ putKernelMap (tablesOf l) k i m
+    unfolding tablesOf
+    kernel-groups-put k m w h u e q =
+        rw (q, u)
+        (state (rows-apart processOf 27 128 0 l (7040 + i * 17) ws (inr (omega arith)))
+        (rows-apart namespaceOf 39 64 3456 l (7040 + i * 17) ws (inr (omega arith)))
+        (rows-apart mapOf 17 64 5952 l (7040 + i * 17) ws (inr (omega arith)))
+        (row-put mapOf 17 64 7040 l i ws (7040 + i * 17) refl h w (omega arith) ∙ ap (set (rows mapOf 17 64 7040 l) i) e))
 
 pub ruleset loads = (process-get, namespace-get, process-none, namespace-none, needs)
 
-pub ruleset stores = (process-out, namespace-out, process-put, namespace-put, needs)
+pub ruleset stores = (process-out, namespace-out, process-put, namespace-put, kernel-map-out, kernel-users-put, kernel-groups-put, needs)

@@ -1,31 +1,37 @@
 -- The tables as a caller thinks of them: document 01, 'What stands in the tables'. Assumes nothing.
 use Prim.Native.Nat.{ℕ}
-use mathlib.Core.List.{List, [], _∷_}
+use mathlib.Core.List.{List, _∷_}
 use mathlib.Core.Bool.{true, false}
-use lib.ListN.{getD, set, take, replicate}
+use lib.ListN.{getD, set, replicate}
 use Rattle.capability.specs.Sets.{fullSet}
-use Rattle.idmap.specs.declared.Line.{Line}
 use Rattle.idmap.specs.Line.{noLine}
-use Rattle.idmap.specs.Good.{maxLines, noId}
-use Rattle.idmap.specs.Text.{padded}
+use Rattle.idmap.specs.Good.{noId}
 use Rattle.rows.specs.Rows.{rows}
 use Rattle.records.specs.declared.Kind.{Kind}
 use Rattle.records.specs.declared.Kind.the-variants.{User, Group}
 use Rattle.records.specs.declared.Ids.{Ids}
 use Rattle.records.specs.declared.Process.{Process}
-use Rattle.records.specs.declared.MapState.{MapState}
-use Rattle.records.specs.declared.MapState.the-variants.{Unwritten, Written}
+use Rattle.records.specs.declared.MapState.the-variants.{Written}
 use Rattle.records.specs.declared.IdMap.{IdMap}
 use Rattle.records.specs.declared.Namespace.{Namespace}
-use Rattle.records.specs.Records.{processOf, freeProcess, namespaceOf, freeNamespace}
+use Rattle.records.specs.Records.{processOf, freeProcess, mapOf, freeMap, namespaceOf, freeNamespace}
 
 pub record State : Type 0 where
   pub processes : List Process
   pub namespaces : List Namespace
+  -- the maps of each namespace once more, with kernel IDs on the parent side, so that one search translates through all levels. Where a line
+  -- does not lie whole in one line of the parent's, it is unwritten
+  pub kernelUsers : List IdMap
+  pub kernelGroups : List IdMap
 
 -- the tables that the words of the lent array hold: 128 places for processes, 64 for namespaces
 unfoldable pub tablesOf : List ℕ → State
-tablesOf l = record { processes = rows processOf 27 128 0 l; namespaces = rows namespaceOf 39 64 3456 l }
+tablesOf l = record {
+  processes = rows processOf 27 128 0 l;
+  namespaces = rows namespaceOf 39 64 3456 l;
+  kernelUsers = rows mapOf 17 64 5952 l;
+  kernelGroups = rows mapOf 17 64 7040 l;
+}
 
 -- what stands in a place. A place past the end is free
 unfoldable pub processAt : State → ℕ → Process
@@ -34,17 +40,39 @@ processAt s i = getD (s .processes) i freeProcess
 unfoldable pub namespaceAt : State → ℕ → Namespace
 namespaceAt s i = getD (s .namespaces) i freeNamespace
 
-abbrev pub putProcess : State → ℕ → Process → State
-putProcess s i p = record { processes = set (s .processes) i p; namespaces = s .namespaces }
+abbrev pub byKind : {A : Type 0} → Kind → A → A → A
+byKind User users groups = users
+byKind Group users groups = groups
 
-abbrev pub putNamespace : State → ℕ → Namespace → State
-putNamespace s i n = record { processes = s .processes; namespaces = set (s .namespaces) i n }
+abbrev pub kernelMaps : Kind → State → List IdMap
+kernelMaps k s = byKind k (s .kernelUsers) (s .kernelGroups)
 
+unfoldable pub kernelMapAt : State → Kind → ℕ → IdMap
+kernelMapAt s k i = getD (kernelMaps k s) i freeMap
+
+-- the same tables with another list in one place
 abbrev pub withProcesses : State → List Process → State
-withProcesses s ps = record { processes = ps; namespaces = s .namespaces }
+withProcesses s ps = record { processes = ps; namespaces = s .namespaces; kernelUsers = s .kernelUsers; kernelGroups = s .kernelGroups }
 
 abbrev pub withNamespaces : State → List Namespace → State
-withNamespaces s ns = record { processes = s .processes; namespaces = ns }
+withNamespaces s ns = record { processes = s .processes; namespaces = ns; kernelUsers = s .kernelUsers; kernelGroups = s .kernelGroups }
+
+abbrev pub withKernelMaps : State → Kind → List IdMap → State
+withKernelMaps s k ms = record {
+  processes = s .processes;
+  namespaces = s .namespaces;
+  kernelUsers = byKind k ms (s .kernelUsers);
+  kernelGroups = byKind k (s .kernelGroups) ms;
+}
+
+abbrev pub putProcess : State → ℕ → Process → State
+putProcess s i p = withProcesses s (set (s .processes) i p)
+
+abbrev pub putNamespace : State → ℕ → Namespace → State
+putNamespace s i n = withNamespaces s (set (s .namespaces) i n)
+
+abbrev pub putKernelMap : State → Kind → ℕ → IdMap → State
+putKernelMap s k i m = withKernelMaps s k (set (kernelMaps k s) i m)
 
 -- ---- document 01: the fresh start
 abbrev pub allZero : Ids
@@ -69,5 +97,14 @@ fixedMap = record { state = Written 1; lines = record { inside = 0; parent = 0; 
 abbrev pub rootNamespace : Namespace
 rootNamespace = record { live = true; parent = 0; level = 0; owner = 0; users = fixedMap; groups = fixedMap; deny = false }
 
+-- it stands for itself in kernel IDs
+unfoldable pub firstKernelMaps : List IdMap
+firstKernelMaps = set (replicate 64 freeMap) 0 fixedMap
+
 unfoldable pub initialTables : State
-initialTables = record { processes = set (replicate 128 freeProcess) 0 firstProcess; namespaces = set (replicate 64 freeNamespace) 0 rootNamespace }
+initialTables = record {
+  processes = set (replicate 128 freeProcess) 0 firstProcess;
+  namespaces = set (replicate 64 freeNamespace) 0 rootNamespace;
+  kernelUsers = firstKernelMaps;
+  kernelGroups = firstKernelMaps;
+}

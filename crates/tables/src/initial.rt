@@ -1,7 +1,8 @@
 // The tables as they are at the start.
 ghost use mathlib.Core.Path.{_≡_};
-ghost use Rattle.tables.specs.Tables.{tablesOf, firstProcess, rootNamespace, initialTables, withProcesses, withNamespaces};
+ghost use Rattle.tables.specs.Tables.{tablesOf, firstProcess, fixedMap, rootNamespace, firstKernelMaps, initialTables, withProcesses, withNamespaces, withKernelMaps};
 use crate::Tables;
+use crate::kernel_maps::kernel_map_put;
 use crate::namespaces::namespace_put;
 use crate::processes::process_put;
 use capability::CapabilitySet;
@@ -9,9 +10,11 @@ use idmap::Line;
 use records::GroupList;
 use records::IdMap;
 use records::Ids;
+use records::Kind;
 use records::MapState;
 use records::Namespace;
 use records::Process;
+use records::namespaces::free_map;
 use records::namespaces::free_namespace;
 use records::processes::free_process;
 
@@ -37,8 +40,8 @@ fn first_process() -> Process
     }
 }
 
-fn root_namespace() -> Namespace
-    ensures { λ r. ⌜ r ≡ rootNamespace ⌝ }
+fn fixed_map() -> IdMap
+    ensures { λ r. ⌜ r ≡ fixedMap ⌝ }
 {
     let fixed = Line {
         inside: 0,
@@ -50,10 +53,16 @@ fn root_namespace() -> Namespace
         parent: 0,
         count: 0,
     };
-    let map = IdMap {
+    IdMap {
         state: MapState::Written(1),
         lines: [fixed, none, none, none, none],
-    };
+    }
+}
+
+fn root_namespace() -> Namespace
+    ensures { λ r. ⌜ r ≡ rootNamespace ⌝ }
+{
+    let map = fixed_map();
     Namespace {
         live: true,
         parent: 0,
@@ -89,10 +98,23 @@ fn fill_namespaces(t: &mut Tables)
     namespace_put(t, 0, root_namespace());
 }
 
+// No kernel map of a kind but the initial namespace's.
+fn fill_kernel_maps(t: &mut Tables, kind: Kind)
+    ensures { λ r. ⌜ tablesOf (now (t .exit)) ≡ withKernelMaps (tablesOf (now (t .entry))) kind firstKernelMaps ⌝ }
+{
+    let free = free_map();
+    for i in 0..64usize {
+        kernel_map_put(t, kind, i, free);
+    }
+    kernel_map_put(t, kind, 0, fixed_map());
+}
+
 // The initial tables, whatever stood in the array.
 pub fn initial(t: &mut Tables)
     ensures { λ r. ⌜ tablesOf (now (t .exit)) ≡ initialTables ⌝ }
 {
     fill_processes(t);
     fill_namespaces(t);
+    fill_kernel_maps(t, Kind::User);
+    fill_kernel_maps(t, Kind::Group);
 }

@@ -1,31 +1,15 @@
--- `hierarchy::translate::to_kernel` meets its contract. A turn keeps what the rest of the way out makes of the ID. Assumes nothing.
-use mathlib.Core.Path.{_≡_}
-use Rattle.tables.specs.Tables.{tablesOf}
-use Rattle.hierarchy.specs.Walks.{outIn, toKernel}
+-- `hierarchy::translate::to_kernel` meets its contract. Assumes nothing.
 use Rattle.hierarchy.proofs.Translations.{translations}
 use Rattle.hierarchy.proofs.translate.to_kernel.Statement.{statement}
 use Rattle.hierarchy.proofs.translate.to_kernel.Tie as tie
 
-abbrev Inv-loop : tie.InvT-loop
-Inv-loop t kind place id left₀ at₀ x₀ left at x = outIn (tablesOf t) kind left at x ≡ toKernel (tablesOf t) kind place id
-
-abbrev μ-loop : tie.MeasureT-loop
-μ-loop t kind place id left₀ at₀ x₀ left at x = left
-
 pub to-kernel-spec : {M : Type 1} → statement M
 to-kernel-spec =
-    tie.close (tie.spec Inv-loop μ-loop
-    (λ c κs. search translations)  -- height-requires
-    (λ c. search translations)  -- loop-holds
+    tie.close (tie.spec
     (λ c κs. search translations)  -- same-requires
-    (λ c κs. search translations)  -- map-lines-requires
-    (λ c κs. search translations)  -- lookup-out-requires
-    (λ c. search translations)  -- enum-known-found
-    (λ c. search translations)  -- enum-told
-    (λ c κs. search translations)  -- namespace-at-requires
-    (λ c. search translations)  -- sub-left
-    (λ c. search translations)  -- loop-less
-    (λ c. search translations)  -- loop-again
     (λ c. search translations)  -- returns
+    (λ c κs. search translations)  -- kernel-lines-requires
+    (λ c κs. search translations)  -- lookup-out-requires
     (λ c. search translations)  -- returns-2
+    (λ c κs. search translations)  -- up-requires
     (λ c. search translations))  -- returns-3

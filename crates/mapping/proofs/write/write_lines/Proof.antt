@@ -5,9 +5,15 @@ use Rattle.mapping.proofs.write.write_lines.Tie as tie
 
 returns-3 : tie.Need-returns-3
 returns-3 c =
-    lines-done _ _ _ _ _ _ (c .before .before .before .before .before .before .before .before .before .before .before .before .before .before .before .before .read-map .ensures) _ (c .before .before .before .before .before .before .before .before .before .before .before .before .before .parsed .given .1) _ (c .before .before .before .before .before .before .before .before .before .before .may-map .ensures) (c .before .before .before .before .before .before .before .before .before .if1 .taken) _
-    (c .before .before .before .before .before .before .before .namespace-at .ensures) _ (c .before .before .before .before .before .map-lines .ensures) _ (c .before .before .before .before .all-covered .ensures) _ _ (c .before .before .before .if2 .taken)
-    (c .before .with-map .ensures) (c .namespace-put .ensures)
+    let stored = c .before .before in
+    let lifted = stored .before .before .before in
+    let tested = lifted .before .before .before in
+    let target = tested .before .before .before .before in
+    let allowed = target .before .before .before in
+    let read = allowed .before .before .before in
+    lines-done _ _ _ _ _ _ (read .before .before .before .read-map .ensures) _ (read .parsed .given .1) _ (allowed .may-map .ensures) (target .before .before .if1 .taken)
+    _ (target .namespace-at .ensures) _ (tested .before .before .map-lines .ensures) _ (tested .before .all-covered .ensures) _ _ _ _ _ (tested .if2 .taken)
+    (lifted .before .kernel-lines .ensures) (lifted .kernel-map .ensures) (stored .before .with-map .ensures) (stored .namespace-put .ensures) (c .kernel-map-put .ensures)
 
 pub write-lines-spec : {M : Type 1} → statement M
 write-lines-spec =
@@ -21,7 +27,10 @@ write-lines-spec =
     (λ c κs. search writing)  -- namespace-at-requires
     (λ c κs. search writing)  -- map-lines-requires
     (λ c κs. search writing)  -- all-covered-requires
+    (λ c κs. search writing)  -- kernel-lines-requires
+    (λ c κs. search writing)  -- kernel-map-requires
     (λ c κs. search writing)  -- with-map-requires
     (λ c κs. search writing)  -- namespace-put-requires
+    (λ c κs. search writing)  -- kernel-map-put-requires
     returns-3
     (λ c. search writing))  -- returns-4
