@@ -8,13 +8,13 @@ use reference::{Answer, Call, Direction};
 
 use crate::kernel;
 use crate::measure::time;
-use crate::state::{self, State, FIVE_BELOW, FIVE_LINES, ONE_LINE};
+use crate::state::{self, State, FIVE_ACROSS, FIVE_BELOW, FIVE_LINES, ONE_LINE};
 use crate::table::{Kernel, Row};
 
 /// Goals in nanoseconds: of a call, of a read or write of a map, and of a translation through at most eight levels.
-const CALL: f64 = 200.0;
-const MAP: f64 = 1000.0;
-const TRANSLATION: f64 = 100.0;
+const CALL: Option<f64> = Some(200.0);
+const MAP: Option<f64> = Some(1000.0);
+const TRANSLATION: Option<f64> = Some(100.0);
 
 /// Calls in a batch, where a call can be repeated in the state that it leaves.
 const REPEATED: usize = 500;
@@ -31,7 +31,7 @@ const FULL: u64 = 0x1f_ffff_ffff;
 /// bindings and answers whether it is done.
 fn row(
     name: &str,
-    goal: f64,
+    goal: Option<f64>,
     state: &State,
     kernel: Kernel,
     calls: Vec<Call>,
@@ -73,10 +73,14 @@ pub fn rows() -> Vec<Row> {
     rows.extend(reads());
     rows.extend(credentials());
     rows.extend(questions());
-    rows.extend(translations(1, Ids::LastLine));
-    rows.extend(translations(8, Ids::LastLine));
-    rows.extend(translations(8, Ids::AnyLine));
-    rows.extend(translations(32, Ids::LastLine));
+    let (last, any) = (Ids::LastLine, Ids::AnyLine);
+    rows.extend(translations(1, "1 level of 5 lines", FIVE_BELOW, last, TRANSLATION));
+    rows.extend(translations(8, "8 levels of 5 lines", FIVE_BELOW, last, TRANSLATION));
+    let words = "8 levels of 5 lines, IDs of any line";
+    rows.extend(translations(8, words, FIVE_BELOW, any, TRANSLATION));
+    rows.extend(translations(32, "32 levels of 5 lines", FIVE_BELOW, last, CALL));
+    rows.extend(translations(8, "8 levels of 5 lines across", FIVE_ACROSS, last, None));
+    rows.extend(translations(32, "32 levels of 5 lines across", FIVE_ACROSS, last, None));
     rows
 }
 
@@ -294,37 +298,22 @@ fn offsets(ids: Ids) -> Vec<u32> {
     (0..REPEATED).map(offset).collect()
 }
 
-fn translations(levels: u64, ids: Ids) -> Vec<Row> {
-    let words = match (levels, ids) {
-        (1, Ids::LastLine) => "1 level of 5 lines".to_string(),
-        (_, Ids::LastLine) => format!("{levels} levels of 5 lines"),
-        (_, Ids::AnyLine) => format!("{levels} levels of 5 lines, IDs of any line"),
-    };
+/// Translations at a depth, which the words name, with these maps from level 2 on.
+fn translations(levels: u64, words: &str, below: &str, ids: Ids, goal: Option<f64>) -> Vec<Row> {
     let inside = offsets(ids);
     let kernel: Vec<u32> = inside.iter().map(|id| state::kernel_id(*id)).collect();
-    vec![
-        translate(&format!("translate out, {words}"), levels, (Way::Out, Direction::Out), &inside),
-        translate(
-            &format!("translate back, {words}"),
-            levels,
-            (Way::Back, Direction::Back),
-            &kernel,
-        ),
-    ]
-}
-
-fn translate(name: &str, levels: u64, ways: (Way, Direction), ids: &[u32]) -> Row {
-    let goal = if levels > 8 { CALL } else { TRANSLATION };
-    let kind = reference::Kind::User;
-    let call = |id: &u32| Call::Translate {
-        kind,
-        direction: ways.1,
-        caller: 1,
-        namespace: levels,
-        id: *id,
+    let state = State::nested(levels, below);
+    let row_of = |name: &str, way: Way, direction: Direction, ids: &[u32]| {
+        let kind = reference::Kind::User;
+        let call =
+            |id: &u32| Call::Translate { kind, direction, caller: 1, namespace: levels, id: *id };
+        let calls = ids.iter().map(call).collect();
+        row(name, goal, &state, Kernel::None, calls, |t, i| {
+            black_box(t.translate(Kind::User, way, 1, levels, ids[i])).is_ok()
+        })
     };
-    let calls = ids.iter().map(call).collect();
-    row(name, goal, &State::deep(levels), Kernel::None, calls, |t, i| {
-        black_box(t.translate(Kind::User, ways.0, 1, levels, ids[i])).is_ok()
-    })
+    vec![
+        row_of(&format!("translate out, {words}"), Way::Out, Direction::Out, &inside),
+        row_of(&format!("translate back, {words}"), Way::Back, Direction::Back, &kernel),
+    ]
 }

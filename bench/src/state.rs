@@ -17,6 +17,9 @@ pub const FIVE_LINES: &str =
 /// A map of five lines below another one.
 pub const FIVE_BELOW: &str =
     "0 0 1000\n1000 1000 1000\n2000 2000 1000\n3000 3000 1000\n4000 4000 1000\n";
+/// A map of five lines below the first of those, four of which run across two of its lines.
+pub const FIVE_ACROSS: &str =
+    "0 0 900\n900 900 1000\n1900 1900 1000\n2900 2900 1000\n3900 3900 1100\n";
 /// The IDs from 0 on that the maps of five lines have.
 pub const MAPPED_IDS: u32 = 5000;
 /// An ID in the last of five lines.
@@ -91,9 +94,14 @@ impl State {
     /// Namespaces one below the other with maps of five lines; the process at each level has the number one above it. The
     /// deepest one's has sixteen supplementary groups.
     pub fn deep(levels: u64) -> State {
+        State::nested(levels, FIVE_BELOW)
+    }
+
+    /// The same with these maps from level 2 on.
+    pub fn nested(levels: u64, below: &str) -> State {
         let mut state = State::initial();
         for level in 1..=levels {
-            state.child_with_maps(level, if level == 1 { FIVE_LINES } else { FIVE_BELOW });
+            state.child_with_maps(level, if level == 1 { FIVE_LINES } else { below });
         }
         state.make(Call::Setgroups { caller: levels + 1, groups: sixteen_groups() });
         state

@@ -33,7 +33,8 @@ pub struct Row {
     pub range: (f64, f64),
     pub reference: f64,
     pub kernel: Kernel,
-    pub goal: f64,
+    /// None where no goal is set.
+    pub goal: Option<f64>,
 }
 
 impl Row {
@@ -60,8 +61,9 @@ impl Row {
     /// Which goals the row misses, and by how much.
     pub fn misses(&self) -> Vec<String> {
         let mut misses = Vec::new();
-        if self.archive > self.goal {
-            misses.push(format!("MISSED by {:.0} ns", self.archive - self.goal));
+        let over = self.goal.map_or(0.0, |goal| self.archive - goal);
+        if over > 0.0 {
+            misses.push(format!("MISSED by {over:.0} ns"));
         }
         let over = self.kernel.nanoseconds().map_or(0.0, |kernel| self.archive - kernel);
         if over > 0.0 {
@@ -76,8 +78,11 @@ impl Row {
             Kernel::Refused => ("refused".to_string(), "-".to_string()),
             Kernel::Nanoseconds(kernel) => (number(kernel), number(kernel / self.archive)),
         };
-        let misses = self.misses();
-        let verdict = if misses.is_empty() { "met".to_string() } else { misses.join(", ") };
+        let verdict = match self.misses() {
+            misses if !misses.is_empty() => misses.join(", "),
+            _ if self.goal.is_none() => "no goal".to_string(),
+            _ => "met".to_string(),
+        };
         format!(
             "| {:<52} | {:>7} | {:>12} | {:>9} | {:>7} | {:>9} | {:>7} | {:>5} | {} |",
             self.name,
@@ -87,7 +92,7 @@ impl Row {
             number(self.reference / self.archive),
             kernel,
             ratio,
-            self.goal,
+            self.goal.map_or("-".to_string(), |goal| goal.to_string()),
             verdict
         )
     }

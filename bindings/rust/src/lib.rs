@@ -31,9 +31,11 @@
 
 mod errno;
 mod ffi;
+mod groups;
 mod tables;
 
 pub use errno::Errno;
+pub use groups::Groups;
 pub use tables::Tables;
 
 /// The value that is no ID. It is never mapped, and in [`Tables::set_ids`] it leaves an ID as it is.
@@ -67,12 +69,12 @@ pub struct Child {
 }
 
 /// A process's own IDs, as its namespace shows them. One that is not mapped there shows as 65534.
-#[derive(Clone, PartialEq, Eq, Hash, Debug)]
+#[derive(Clone, Copy, PartialEq, Eq, Hash, Debug)]
 pub struct OwnIds {
     /// The real, effective and saved user ID.
     pub users: [u32; 3],
     /// The real, effective and saved group ID.
     pub groups: [u32; 3],
     /// The supplementary groups, in order.
-    pub supplementary: Vec<u32>,
+    pub supplementary: Groups,
 }

@@ -4,7 +4,7 @@ use std::fmt;
 
 use crate::errno::{result_of, Errno};
 use crate::ffi::{self, Words};
-use crate::{Child, Kind, OwnIds, Way};
+use crate::{Child, Groups, Kind, OwnIds, Way};
 
 /// The length of the first buffer that the reads of whole texts lend: five lines of 33 bytes.
 const FIRST_BUFFER: usize = 165;
@@ -328,7 +328,7 @@ impl Tables {
         Ok(OwnIds {
             users: [u0, u1, u2],
             groups: [g0, g1, g2],
-            supplementary: places[..count].to_vec(),
+            supplementary: Groups::first(count, places),
         })
     }
 

@@ -1,22 +1,17 @@
 -- How a store keeps the tables in agreement with what a history gives. Assumes nothing.
-use Prim.Native.Nat.{ℕ, zero, suc, _<_}
+use Prim.Native.Nat.{ℕ, suc, _<_}
 use mathlib.Core.Path.{_≡_, refl, sym, ap, _∙_}
 use mathlib.Core.Bool.{Bool, true, cond, _&&_}
 use mathlib.Core.List.{List}
 use mathlib.Core.Option.{Option}
-use native.Mathlib.Omega.{arith}
 use lib.Dec.{eqb}
 use lib.ListN.{length, length-set}
 use borrow.Author.Tests.{eqb-true}
 use Rattle.idmap.specs.declared.Line.{Line}
-use Rattle.idmap.specs.declared.Translated.{Translated}
-use Rattle.idmap.specs.Lookup.{out, back}
 use Rattle.records.specs.declared.Kind.{Kind}
 use Rattle.records.specs.declared.Kind.the-variants.{User, Group}
 use Rattle.records.specs.declared.Process.{Process}
 use Rattle.records.specs.declared.Namespace.{Namespace}
-use Rattle.records.specs.declared.MapState.{MapState}
-use Rattle.records.specs.declared.MapState.the-variants.{Unwritten, Written}
 use Rattle.records.specs.declared.IdMap.{IdMap}
 use Rattle.records.specs.Records.{mapIn}
 use Rattle.records.specs.Records.{linesOf as mapLinesOf}
@@ -27,9 +22,7 @@ use Rattle.hierarchy.specs.Walks.{kernelLines}
 use Rattle.prelude.proofs.Tests.{by-test}
 use Rattle.claims.specs.Events.{Event}
 use Rattle.claims.specs.Words.{Held, isProcess, placeOf, heldOf, sameKind}
-use Rattle.claims.specs.Translation.{outBy, backBy}
 use Rattle.claims.specs.Agreement.{heldIn, writtenIn, Agrees, Agreed}
-use Rattle.claims.proofs.Allowed.{SoundAt}
 use Rattle.claims.proofs.Stores.{cond-ap, read-process, read-namespace, read-kernel, named}
 
 -- where a test picks between what is equal, it does not matter

@@ -2,18 +2,18 @@
 -- event keeps it. Assumes nothing.
 use Prim.Native.Nat.{ℕ, zero, suc, _+_, _<_, _%_, _^_}
 use mathlib.Core.Path.{_≡_, refl, sym, ap, _∙_}
-use mathlib.Core.Bool.{Bool, true, false, cond, _&&_, true≢false}
+use mathlib.Core.Bool.{Bool, true, false, cond, _&&_}
 use mathlib.Core.List.{List, [], _∷_}
 use mathlib.Core.Option.{Option, none, some}
 use native.Mathlib.Omega.{arith}
-use lib.Dec.{eqb, leb, ltb}
+use lib.Dec.{eqb, leb}
 use borrow.Author.Tests.{eq-eqb, ne-eqb, eqb-true, eqb-false, lt-ltb, le-ltb}
 use Rattle.idmap.specs.declared.Line.{Line}
 use Rattle.idmap.specs.declared.Translated.{Translated}
-use Rattle.idmap.specs.declared.Translated.the-variants.{Id, Unmapped}
+use Rattle.idmap.specs.declared.Translated.the-variants.{Id}
 use Rattle.idmap.specs.Line.{inRange}
 use Rattle.idmap.specs.Lookup.{movedBy, out, thenId, reachOf}
-use Rattle.idmap.specs.Good.{noId, goodOf, boundedOf, fitsOf, allApart}
+use Rattle.idmap.specs.Good.{noId, goodOf}
 use Rattle.idmap.specs.Text.{consOf, allOf, mapLines}
 use Rattle.idmap.specs.Compose.{liftedOf, composedOf}
 use Rattle.idmap.proofs.Translation.{two-answers, out-here, out-later}
@@ -100,7 +100,7 @@ module _ (up : ℕ → ℕ) (maps : Kind → ℕ → Option (List Line)) (kernel
   pub parented : (n m : ℕ) → ((k : Kind) → maps k n ≡ none) → Once (λ (i : ℕ). cond (eqb i n) m (up i)) maps kernel
   parented n m e =
       let other : (k : Kind) (i : ℕ) → (kernel k i ≡ [] → ⊥) → eqb i n ≡ false =
-          λ k i f. ne-eqb i n (λ q. f (ap (kernel k) q ∙ o .unwritten k n (e k))) in
+      λ k i f. ne-eqb i n (λ q. f (ap (kernel k) q ∙ o .unwritten k n (e k))) in
       record {
         root = o .root;
         good = o .good;

@@ -105,11 +105,11 @@ module _ (s : State) (h : List Event) (a : Agreed s h) (d : SoundAt h) (text lis
         by-test (sameKind k j && eqb i (placeOf h name))
         (λ t.
         let q : kernelLines s j (namespaceAt s (processAt s p .namespace) .parent) ≡ kernelOf k h (parentOf h (placeOf h name)) =
-            a .namespace-kernel j (namespaceAt s (processAt s p .namespace) .parent)
-            ∙ ap (kernelOf j h) (a .namespace-parent (processAt s p .namespace) ∙ ap (parentOf h) (caller-place s h a name p e))
-            ∙ ap (λ (x : Kind). kernelOf x h (parentOf h (placeOf h name))) (sym (same-kind k j (and-left (sameKind k j) (eqb i (placeOf h name)) t))) in
+        a .namespace-kernel j (namespaceAt s (processAt s p .namespace) .parent)
+        ∙ ap (kernelOf j h) (a .namespace-parent (processAt s p .namespace) ∙ ap (parentOf h) (caller-place s h a name p e))
+        ∙ ap (λ (x : Kind). kernelOf x h (parentOf h (placeOf h name))) (sym (same-kind k j (and-left (sameKind k j) (eqb i (placeOf h name)) t))) in
         let r : linesOf (kernelMapOf (kernelLines s j (namespaceAt s (processAt s p .namespace) .parent)) ls) ≡ composedWith (kernelOf k h (parentOf h (placeOf h name))) (mapLines text) =
-            kernel-lines-of (kernelLines s j (namespaceAt s (processAt s p .namespace) .parent)) ls ∙ ap (λ (above : List Line). orNone (composedOf above ls)) q ∙ rw m in
+        kernel-lines-of (kernelLines s j (namespaceAt s (processAt s p .namespace) .parent)) ls ∙ ap (λ (above : List Line). orNone (composedOf above ls)) q ∙ rw m in
         rw (r, caller-place s h a name p e, t))
         (λ t. rw (caller-place s h a name p e, t))
 

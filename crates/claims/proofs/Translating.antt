@@ -1,7 +1,7 @@
 -- Translation by the tables is translation by the history, level by level. Assumes nothing.
 use Prim.Native.Nat.{ℕ, zero, suc, _<_, _^_}
 use mathlib.Core.Path.{_≡_, refl, sym, ap, _∙_}
-use mathlib.Core.Bool.{true, false, cond}
+use mathlib.Core.Bool.{cond}
 use mathlib.Core.List.{List, [], _∷_, map}
 use mathlib.Core.Option.{none, some}
 use native.Mathlib.Omega.{arith}
@@ -9,7 +9,6 @@ use lib.Dec.{eqb}
 use borrow.Author.Tests.{eq-eqb, ne-eqb, eqb-true, eqb-false}
 use Rattle.idmap.specs.declared.Line.{Line}
 use Rattle.idmap.specs.declared.Translated.{Translated}
-use Rattle.idmap.specs.declared.Translated.the-variants.{Id, Unmapped}
 use Rattle.idmap.specs.Lookup.{out, thenId, flip, back}
 use Rattle.idmap.specs.Good.{goodOf, boundedOf, fitsOf, allApart}
 use Rattle.idmap.proofs.Translation.{two-answers}
@@ -21,7 +20,7 @@ use Rattle.records.specs.declared.IdMap.{IdMap}
 use Rattle.records.specs.Records.{mapIn}
 use Rattle.records.specs.Records.{linesOf as mapLinesOf}
 use Rattle.tables.specs.Tables.{State, namespaceAt}
-use Rattle.hierarchy.specs.Walks.{heightOf, itself, outIn, atOnce, kernelLines, toKernel, backIn, fromKernel}
+use Rattle.hierarchy.specs.Walks.{heightOf, itself, outIn, atOnce, toKernel, backIn, fromKernel}
 use Rattle.prelude.proofs.Tests.{by-test}
 use Rattle.claims.specs.Events.{Event, other, forked, cloned, unshared, joined, mapped, changed, grouped}
 use Rattle.claims.specs.Words.{isNamespace, placeOf, parentOf, levelOf, mapOf, kernelOf, fixedLine, orNone, linesOf, standsFor}

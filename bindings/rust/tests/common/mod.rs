@@ -82,7 +82,7 @@ fn question(tables: &Tables, call: &Call) -> Result<Answer, Errno> {
         Call::GetIds { caller } => tables.getids(*caller).map(|ids| Answer::OwnIds {
             user: ids.users,
             group: ids.groups,
-            groups: ids.supplementary,
+            groups: ids.supplementary.to_vec(),
         }),
         Call::Translate { kind, direction, caller, namespace, id } => tables
             .translate(kind_of(*kind), way_of(*direction), *caller, *namespace, *id)
