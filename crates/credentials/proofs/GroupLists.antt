@@ -8,6 +8,8 @@ use native.Mathlib.Omega.{arith}
 use lib.ListN.{length, take, drop, getD, set, replicate}
 use borrow.Author.Needs.{needs}
 use borrow.Author.Tests.{lt-ltb, le-ltb}
+use Rattle.idmap.specs.Line.{linesIn}
+use Rattle.idmap.specs.Lookup.{out}
 use Rattle.idmap.specs.declared.Translated.{Translated}
 use Rattle.idmap.specs.declared.Translated.the-variants.{Id, Unmapped}
 use Rattle.idmap.proofs.Collecting.{allFrom, all-starts, all-ends, all-none, all-next, made-so-far}
@@ -25,7 +27,8 @@ use Rattle.tables.specs.declared.find.Found.the-variants.{At, Nothing}
 use Rattle.tables.specs.declared.answer.Errno.the-variants.{EPERM, ESRCH, EINVAL}
 use Rattle.tables.specs.declared.answer.Answer.the-variants.{Refused, Done}
 use Rattle.tables.proofs.Promises.{refuses, answers}
-use Rattle.hierarchy.specs.Walks.{toKernel, capableIn}
+use Rattle.hierarchy.specs.Walks.{kernelLines, toKernel, capableIn}
+use Rattle.hierarchy.proofs.Translations.{to-once}
 use Rattle.credentials.specs.declared.groups.Listed.{Listed}
 use Rattle.credentials.specs.Calls.{toOption, groupList, withList, thenList, kernelGroups, listedOf, setGroupsOf}
 
@@ -41,6 +44,10 @@ module _ (ids : List ℕ) (i : ℕ) (long : length ids ≡ 16) (room : i ≤ 16)
 
 pub rest-empty : (ids : List ℕ) (i x : ℕ) → i < 16 → drop i ids ≡ replicate (16 - i) 0 → drop (i + 1) (set ids i x) ≡ replicate (16 - (i + 1)) 0
 rest-empty ids i x h rest = collected-rest ids i 16 0 rest x h
+
+-- ---- kernel_group
+pub group-once : (s : State) (n x : ℕ) (r : Translated) (ws : List ℕ) → 0 < n → 3 ≤ length ws → linesIn ws ≡ kernelLines s Group n → r ≡ out (linesIn ws) x → r ≡ toKernel s Group n x
+group-once s n x r ws h k read e = to-once s Group n x r (λ z. omega arith) ws read k e
 
 -- the kernel IDs of a list, of which the first i are in ids
 pub kernelFrom : State → ℕ → List ℕ → List ℕ → ℕ → Option (List ℕ)
@@ -141,6 +148,7 @@ module _ (l : List ℕ) (c : ℕ) (list : List ℕ) (r : Found) (named : r ≡ p
                 (rw (put, made) (after-some (tablesOf l) i p listed (kernelGroups (tablesOf l) (p .namespace) list) got t ∙ sym groups-listed))
 
 pub ruleset grouping = (
+  group-once,
   rest-empty,
   kernel-starts,
   kernel-ends,

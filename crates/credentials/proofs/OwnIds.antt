@@ -7,6 +7,8 @@ use native.Mathlib.Omega.{arith}
 use lib.ListN.{length, take, drop, getD, set, replicate}
 use lib.Seq.{take-all, take-suc, take-suc-set}
 use borrow.Author.Needs.{needs}
+use Rattle.idmap.specs.Line.{linesIn}
+use Rattle.idmap.specs.Lookup.{back}
 use Rattle.idmap.specs.declared.Translated.{Translated}
 use Rattle.idmap.specs.declared.Translated.the-variants.{Id, Unmapped}
 use Rattle.records.specs.declared.Kind.{Kind}
@@ -20,18 +22,32 @@ use Rattle.tables.specs.declared.find.Found.{Found}
 use Rattle.tables.specs.declared.find.Found.the-variants.{At, Nothing}
 use Rattle.tables.specs.declared.answer.Errno.the-variants.{ESRCH}
 use Rattle.tables.specs.declared.answer.Answer.the-variants.{Refused, Own}
-use Rattle.hierarchy.specs.Walks.{fromKernel}
+use Rattle.hierarchy.specs.Walks.{heightOf, itself, kernelLines, backIn, fromKernel}
+use Rattle.hierarchy.proofs.Translations.{from-root, from-once, from-levels}
 use Rattle.credentials.specs.declared.own.OwnIds.{OwnIds}
-use Rattle.credentials.specs.Calls.{seen, seenIds, noIds, groupList, seenGroups, ownIdsOf}
+use Rattle.credentials.specs.Calls.{shownAs, seen, seenIds, noIds, groupList, seenGroups, ownIdsOf}
 use Rattle.credentials.proofs.GroupLists.{groups-so-far, rest-empty}
 
 -- ---- an ID, and three
-module _ (s : State) (kind : Kind) (n x : ℕ) (r : Translated) (found : r ≡ fromKernel s kind n x) where
-  pub seen-mapped : (y : ℕ) → r ≡ Id y → y ≡ seen s kind n x
-  seen-mapped y e = rw (← found, e)
+pub shown-id : (r : Translated) (x : ℕ) → r ≡ Id x → x ≡ shownAs r
+shown-id r x e = rw e
 
-  pub seen-unmapped : r ≡ Unmapped → 65534 ≡ seen s kind n x
-  seen-unmapped e = rw (← found, e)
+pub shown-none : (r : Translated) → r ≡ Unmapped → 65534 ≡ shownAs r
+shown-none r e = rw e
+
+module _ (s : State) (kind : Kind) (n x : ℕ) (r : Translated) (v : ℕ) (shown : v ≡ shownAs r) where
+  seen-by : r ≡ fromKernel s kind n x → v ≡ seen s kind n x
+  seen-by found = shown ∙ rw found
+
+  pub seen-root : n ≡ 0 → r ≡ itself x → v ≡ seen s kind n x
+  seen-root z found = seen-by (from-root s kind n x r z found)
+
+  module _ (below : n ≡ 0 → ⊥) (ws : List ℕ) (read : linesIn ws ≡ kernelLines s kind n) where
+    pub seen-once : 3 ≤ length ws → r ≡ back (linesIn ws) x → v ≡ seen s kind n x
+    seen-once k found = seen-by (from-once s kind n x r below ws read k found)
+
+    pub seen-levels : length ws < 3 → r ≡ backIn s kind (heightOf s n) n x → v ≡ seen s kind n x
+    seen-levels k found = seen-by (from-levels s kind n x r below ws read k found)
 
 pub seen-three : (s : State) (kind : Kind) (n : ℕ) (i : Ids) (a b d : ℕ) → a ≡ seen s kind n (i .real) → b ≡ seen s kind n (i .effective)
     → d ≡ seen s kind n (i .saved) → record { real = a; effective = b; saved = d } ≡ seenIds s kind n i
@@ -85,4 +101,4 @@ module _ (s : State) (c : ℕ) (r : Found) (named : r ≡ processNamed s c) wher
   unfolding ownIdsOf
   own-found i p a b g at read ea eb eg = rw (← named, at, ← read, ea, eb, eg)
 
-pub ruleset showing = (seen-mapped, seen-unmapped, seen-three, rest-empty, seen-starts, seen-next, seen-count, seen-all, own-nobody, own-found, needs)
+pub ruleset showing = (shown-id, shown-none, seen-root, seen-once, seen-levels, seen-three, rest-empty, seen-starts, seen-next, seen-count, seen-all, own-nobody, own-found, needs)

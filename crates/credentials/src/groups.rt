@@ -3,12 +3,16 @@ ghost use mathlib.Core.Path.{_≡_};
 ghost use mathlib.Core.Option.{none};
 ghost use Prim.Native.Nat.{_≤_};
 ghost use lib.ListN.{length};
+ghost use Rattle.idmap.specs.Line.{linesIn};
+ghost use Rattle.records.specs.declared.Kind.the-variants.{Group};
 ghost use Rattle.tables.specs.Tables.{tablesOf};
+ghost use Rattle.hierarchy.specs.Walks.{kernelLines, toKernel};
 ghost use Rattle.tables.specs.Reply.{Promise};
 ghost use Rattle.credentials.specs.Calls.{withList, kernelGroups, listedOf, setGroupsOf};
 use hierarchy::capable::capable;
 use hierarchy::translate::to_kernel;
 use idmap::Translated;
+use idmap::lookup::lookup_out;
 use records::GroupList;
 use records::Kind;
 use records::Process;
@@ -18,6 +22,7 @@ use tables::answer::Answer;
 use tables::answer::Errno;
 use tables::find::Found;
 use tables::find::find_process;
+use tables::kernel_maps::kernel_lines;
 use tables::namespaces::namespace_at;
 use tables::processes::process_at;
 use tables::processes::process_put;
@@ -40,15 +45,29 @@ fn none_listed() -> Listed
     }
 }
 
+// The kernel ID of a group, by the kernel lines of the namespace where there are some, so that a list reads where they stand only once.
+fn kernel_group(t: &Tables, lines: &[u64], namespace: u64, id: u32) -> Translated
+    requires { ⌜ linesIn (now lines) ≡ kernelLines (tablesOf (now t)) Group «namespace» ⌝ }
+    ensures { λ r. ⌜ r ≡ toKernel (tablesOf (now (t .entry))) Group «namespace» id ⌝ }
+{
+    if 0 < namespace {
+        if 3 <= lines.len() {
+            return lookup_out(lines, id);
+        }
+    }
+    to_kernel(t, Kind::Group, namespace, id)
+}
+
 // The kernel IDs of at most 16 groups, in order.
 fn kernel_groups(t: &Tables, namespace: u64, list: &[u32]) -> Listed
     requires { ⌜ length (now list) ≤ 16 ⌝ }
     ensures { λ r. ⌜ r ≡ listedOf (kernelGroups (tablesOf (now (t .entry))) «namespace» (now (list .entry))) ⌝ }
 {
+    let lines = kernel_lines(t, namespace as usize, Kind::Group);
     let mut ids = [0u32; 16];
     let mut i: usize = 0;
     while i < list.len() {
-        let r = to_kernel(t, Kind::Group, namespace, list[i]);
+        let r = kernel_group(t, lines, namespace, list[i]);
         let Translated::Id(x) = r else {
             return none_listed();
         };

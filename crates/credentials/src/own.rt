@@ -1,9 +1,13 @@
 // A process's own IDs, as seen in its namespace.
 ghost use mathlib.Core.Path.{_≡_};
+ghost use Rattle.idmap.specs.Line.{linesIn};
 ghost use Rattle.tables.specs.Tables.{tablesOf};
-ghost use Rattle.credentials.specs.Calls.{seen, seenIds, seenGroups, ownIdsOf};
-use hierarchy::translate::from_kernel;
+ghost use Rattle.hierarchy.specs.Walks.{kernelLines};
+ghost use Rattle.credentials.specs.Calls.{shownAs, seen, seenIds, seenGroups, ownIdsOf};
+use hierarchy::translate::back_by_levels;
+use hierarchy::translate::same;
 use idmap::Translated;
+use idmap::lookup::lookup_back;
 use records::GroupList;
 use records::Ids;
 use records::Kind;
@@ -12,6 +16,7 @@ use tables::answer::Answer;
 use tables::answer::Errno;
 use tables::find::Found;
 use tables::find::find_process;
+use tables::kernel_maps::kernel_lines;
 use tables::processes::process_at;
 
 // The answer, and the IDs beside it; where it is a refusal they are 0.
@@ -22,23 +27,37 @@ pub struct OwnIds {
     pub supplementary: GroupList,
 }
 
-// A kernel ID as a namespace sees it; 65534 where it is not mapped there.
-fn seen_id(t: &Tables, kind: Kind, namespace: u64, id: u32) -> u32
-    ensures { λ r. ⌜ r ≡ seen (tablesOf (now (t .entry))) kind «namespace» id ⌝ }
+// An ID, or 65534 where there is none.
+fn shown_as(r: Translated) -> u32
+    ensures { λ x. ⌜ x ≡ shownAs r ⌝ }
 {
-    let r = from_kernel(t, kind, namespace, id);
     match r {
         Translated::Id(x) => x,
         Translated::Unmapped => 65534,
     }
 }
 
+// A kernel ID as a namespace sees it, by its kernel lines where there are some, so that a list reads where they stand only once.
+fn seen_id(t: &Tables, lines: &[u64], kind: Kind, namespace: u64, id: u32) -> u32
+    requires { ⌜ linesIn (now lines) ≡ kernelLines (tablesOf (now t)) kind «namespace» ⌝ }
+    ensures { λ r. ⌜ r ≡ seen (tablesOf (now (t .entry))) kind «namespace» id ⌝ }
+{
+    if namespace == 0 {
+        return shown_as(same(id));
+    }
+    if lines.len() < 3 {
+        return shown_as(back_by_levels(t, kind, namespace, id));
+    }
+    shown_as(lookup_back(lines, id))
+}
+
 fn seen_ids(t: &Tables, kind: Kind, namespace: u64, ids: Ids) -> Ids
     ensures { λ r. ⌜ r ≡ seenIds (tablesOf (now (t .entry))) kind «namespace» ids ⌝ }
 {
-    let real = seen_id(t, kind, namespace, ids.real);
-    let effective = seen_id(t, kind, namespace, ids.effective);
-    let saved = seen_id(t, kind, namespace, ids.saved);
+    let lines = kernel_lines(t, namespace as usize, kind);
+    let real = seen_id(t, lines, kind, namespace, ids.real);
+    let effective = seen_id(t, lines, kind, namespace, ids.effective);
+    let saved = seen_id(t, lines, kind, namespace, ids.saved);
     Ids {
         real: real,
         effective: effective,
@@ -50,6 +69,7 @@ fn seen_ids(t: &Tables, kind: Kind, namespace: u64, ids: Ids) -> Ids
 fn seen_groups(t: &Tables, namespace: u64, groups: GroupList) -> GroupList
     ensures { λ r. ⌜ r ≡ seenGroups (tablesOf (now (t .entry))) «namespace» groups ⌝ }
 {
+    let lines = kernel_lines(t, namespace as usize, Kind::Group);
     let kernel = groups.ids;
     let listed = groups.count;
     let mut ids = [0u32; 16];
@@ -61,7 +81,7 @@ fn seen_groups(t: &Tables, namespace: u64, groups: GroupList) -> GroupList
                 ids: ids,
             };
         }
-        ids[i] = seen_id(t, Kind::Group, namespace, kernel[i]);
+        ids[i] = seen_id(t, lines, Kind::Group, namespace, kernel[i]);
         i += 1;
     }
     GroupList {

@@ -68,7 +68,10 @@ module _ (s : State) (kind : Kind) where
 
 -- ---- coming back
 module _ (s : State) (kind : Kind) where
-  back-root : (k n y : ℕ) → n ≡ 0 → backIn s kind k n y ≡ itself y
+  pub back-height : (n y k : ℕ) (r : Translated) → k ≡ heightOf s n → r ≡ backIn s kind k n y → r ≡ backIn s kind (heightOf s n) n y
+  back-height n y k r e a = a ∙ rw e
+
+  pub back-root : (k n y : ℕ) → n ≡ 0 → backIn s kind k n y ≡ itself y
   unfolding backIn
   back-root zero n y e = rw (eq-eqb n 0 e)
   back-root (suc k) n y e = rw (eq-eqb n 0 e)
@@ -134,9 +137,9 @@ module _ (s : State) (kind : Kind) (n x : ℕ) (r : Translated) where
     unfolding fromKernel
     from-once h e = e ∙ sym (rw (ne-eqb n 0 below, ← read) (some-lines ws (back (linesIn ws) x) (backIn s kind (heightOf s n) n x) h))
 
-    pub from-levels : (k : ℕ) → length ws < 3 → k ≡ heightOf s n → r ≡ backIn s kind k n x → r ≡ fromKernel s kind n x
+    pub from-levels : length ws < 3 → r ≡ backIn s kind (heightOf s n) n x → r ≡ fromKernel s kind n x
     unfolding fromKernel
-    from-levels k h q e = e ∙ rw q (sym (rw (ne-eqb n 0 below, ← read) (no-lines ws (back (linesIn ws) x) (backIn s kind (heightOf s n) n x) h)))
+    from-levels h e = e ∙ sym (rw (ne-eqb n 0 below, ← read) (no-lines ws (back (linesIn ws) x) (backIn s kind (heightOf s n) n x) h))
 
 -- ---- namespace 0 translates to itself and back, whatever its maps say
 module _ (s : State) (kind : Kind) where
@@ -158,6 +161,7 @@ pub ruleset translations = (
   out-end,
   out-none,
   out-on,
+  back-height,
   back-at-root,
   back-end,
   back-none,

@@ -20,7 +20,7 @@ pub fn height(t: &Tables, place: u64) -> u64
 }
 
 // In the initial namespace each ID but 'no ID' stands for itself.
-fn same(id: u32) -> Translated
+pub fn same(id: u32) -> Translated
     ensures { λ r. ⌜ r ≡ itself id ⌝ }
 {
     if id == 4294967295 {
@@ -87,6 +87,13 @@ fn down(t: &Tables, kind: Kind, left: u64, at: u64, id: u32) -> Translated
     }
 }
 
+// The ID of a namespace for a kernel ID, level by level.
+pub fn back_by_levels(t: &Tables, kind: Kind, place: u64, id: u32) -> Translated
+    ensures { λ r. ⌜ r ≡ backIn (tablesOf (now (t .entry))) kind (heightOf (tablesOf (now (t .entry))) place) place id ⌝ }
+{
+    down(t, kind, height(t, place), place, id)
+}
+
 // The ID of a namespace that stands for a kernel ID. Linux: from_kuid, from_kgid.
 pub fn from_kernel(t: &Tables, kind: Kind, place: u64, id: u32) -> Translated
     ensures { λ r. ⌜ r ≡ fromKernel (tablesOf (now (t .entry))) kind place id ⌝ }
@@ -98,5 +105,5 @@ pub fn from_kernel(t: &Tables, kind: Kind, place: u64, id: u32) -> Translated
     if 3 <= lines.len() {
         return lookup_back(lines, id);
     }
-    down(t, kind, height(t, place), place, id)
+    back_by_levels(t, kind, place, id)
 }

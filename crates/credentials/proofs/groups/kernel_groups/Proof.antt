@@ -11,33 +11,34 @@ use Rattle.credentials.proofs.groups.kernel_groups.Statement.{statement
 use Rattle.credentials.proofs.groups.kernel_groups.Tie as tie
 
 abbrev Inv-loop : tie.InvT-loop
-Inv-loop t namespace list ids₀ i₀ ids i =
+Inv-loop t namespace list lines ids₀ i₀ ids i =
     (i ≤ length list) × (length ids ≡ 16) × (drop i ids ≡ replicate (16 - i) 0) × (kernelGroups (tablesOf t) namespace list ≡ kernelFrom (tablesOf t) namespace list ids i)
 
 abbrev μ-loop : tie.MeasureT-loop
-μ-loop t namespace list ids₀ i₀ ids i = length list - i
+μ-loop t namespace list lines ids₀ i₀ ids i = length list - i
 
 loop-again : tie.Need-loop-again Inv-loop μ-loop
 loop-again c =
     let at-read = c .before .before .before in
     let turn = at-read .before .before in
     let inv = turn .before .loop .inv in
-    let start = turn .before .before .before in
+    let start = turn .before .before .before .before in
     let told = c .before .r .given .1 in (
       search needs,
       search needs,
       rest-empty (turn .before .loop .ids) (turn .before .loop .i) _ (search needs) (inv .2),
       kernel-next _ _ (start .args .list .now) (turn .before .loop .ids) _ (inv .3) (turn .loop-test .taken)
-          _ (at-read .to-kernel .ensures) _ told (start .pre) (inv .1),
+          _ (at-read .kernel-group .ensures) _ told (start .pre) (inv .1),
     )
 
 pub kernel-groups-spec : {M : Type 1} → statement M
 kernel-groups-spec =
     tie.close (tie.spec Inv-loop μ-loop
+    (λ c κs. search grouping)  -- kernel-lines-requires
     (λ c. search grouping)  -- loop-holds
-    (λ c. search grouping)  -- mul-to-kernel
-    (λ c. search grouping)  -- shared-slice-read-to-kernel
-    (λ c κs. search grouping)  -- to-kernel-requires
+    (λ c. search grouping)  -- mul-kernel-group
+    (λ c. search grouping)  -- shared-slice-read-kernel-group
+    (λ c κs. search grouping)  -- kernel-group-requires
     (λ c. search grouping)  -- enum-known-r
     (λ c. search grouping)  -- enum-told
     (λ c κs. search grouping)  -- none-listed-requires

@@ -10,15 +10,16 @@ use Rattle.credentials.proofs.own.seen_groups.Statement.{statement}
 use Rattle.credentials.proofs.own.seen_groups.Tie as tie
 
 abbrev Inv-loop : tie.InvT-loop
-Inv-loop t namespace kernel listed ids₀ i₀ ids i =
+Inv-loop t namespace lines kernel listed ids₀ i₀ ids i =
     (i ≤ 16) × (i ≤ listed) × (length ids ≡ 16) × (drop i ids ≡ replicate (16 - i) 0) × SeenTo (tablesOf t) namespace kernel ids i
 
 abbrev μ-loop : tie.MeasureT-loop
-μ-loop t namespace kernel listed ids₀ i₀ ids i = 16 - i
+μ-loop t namespace lines kernel listed ids₀ i₀ ids i = 16 - i
 
 pub seen-groups-spec : {M : Type 1} → statement M
 seen-groups-spec =
     tie.close (tie.spec Inv-loop μ-loop
+    (λ c κs. search showing)  -- kernel-lines-requires
     (λ c. search showing)  -- loop-holds
     (λ c. search showing)  -- returns
     (λ c. search showing)  -- mul-seen-id

@@ -6,8 +6,12 @@ use Rattle.credentials.proofs.own.seen_id.Tie as tie
 pub seen-id-spec : {M : Type 1} → statement M
 seen-id-spec =
     tie.close (tie.spec
-    (λ c κs. search showing)  -- from-kernel-requires
-    (λ c. search showing)  -- enum-known-r
-    (λ c. search showing)  -- enum-told
+    (λ c κs. search showing)  -- same-requires
+    (λ c κs. search showing)  -- shown-as-requires
     (λ c. search showing)  -- returns
-    (λ c. search showing))  -- returns-2
+    (λ c κs. search showing)  -- back-by-levels-requires
+    (λ c κs. search showing)  -- shown-as-requires-2
+    (λ c. search showing)  -- returns-2
+    (λ c κs. search showing)  -- lookup-back-requires
+    (λ c κs. search showing)  -- shown-as-requires-3
+    (λ c. search showing))  -- returns-3

@@ -6,6 +6,7 @@ use Rattle.credentials.proofs.own.seen_ids.Tie as tie
 pub seen-ids-spec : {M : Type 1} → statement M
 seen-ids-spec =
     tie.close (tie.spec
+    (λ c κs. search showing)  -- kernel-lines-requires
     (λ c κs. search showing)  -- seen-id-requires
     (λ c κs. search showing)  -- seen-id-requires-2
     (λ c κs. search showing)  -- seen-id-requires-3

@@ -11,6 +11,5 @@ from-kernel-spec =
     (λ c κs. search translations)  -- kernel-lines-requires
     (λ c κs. search translations)  -- lookup-back-requires
     (λ c. search translations)  -- returns-2
-    (λ c κs. search translations)  -- height-requires
-    (λ c κs. search translations)  -- down-requires
+    (λ c κs. search translations)  -- back-by-levels-requires
     (λ c. search translations))  -- returns-3
