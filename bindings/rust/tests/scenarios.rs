@@ -133,6 +133,62 @@ fn levels_reach_32() {
     assert_eq!(descend(32).clone_process(33), Err(Eusers));
 }
 
+/// Makes a child of the process in a namespace of its own, with these maps and as the root of it.
+fn nested(tables: &mut Tables, caller: u64, users: &str, groups: &str) -> u64 {
+    let child = tables.clone_process(caller).expect("there is room").process;
+    for (kind, text) in [(Kind::User, users), (Kind::Group, groups)] {
+        tables.write_map(kind, caller, child, text.as_bytes()).expect("the map is good");
+    }
+    for kind in [Kind::Group, Kind::User] {
+        tables.set_ids(kind, child, [0; 3]).expect("0 is mapped");
+    }
+    child
+}
+
+/// The second of the user lines at level 2 runs across both lines of level 1, so that users are translated level by level
+/// from there on; each line of the groups lies whole in one.
+#[test]
+fn translation_goes_through_levels() {
+    let mut tables = Tables::new();
+    let first = nested(&mut tables, 1, "0 100000 10\n10 200000 5\n", "0 100000 10\n10 200000 5\n");
+    let second = nested(&mut tables, first, "0 2 4\n4 8 4\n", "0 2 4\n4 10 4\n");
+    nested(&mut tables, second, "0 5 3\n", "0 5 3\n");
+    let out = |kind, namespace, id| tables.translate(kind, Way::Out, 1, namespace, id);
+    let back = |kind, namespace, id| tables.translate(kind, Way::Back, 1, namespace, id);
+    let pairs = [
+        (
+            Kind::User,
+            2,
+            vec![(0, 100002), (3, 100005), (4, 100008), (5, 100009), (6, 200000), (7, 200001)],
+        ),
+        (Kind::Group, 2, vec![(0, 100002), (3, 100005), (4, 200000), (7, 200003)]),
+        (Kind::User, 3, vec![(0, 100009), (1, 200000), (2, 200001)]),
+        (Kind::Group, 3, vec![(0, 200001), (1, 200002), (2, 200003)]),
+    ];
+    for (kind, namespace, pairs) in pairs {
+        for (inside, kernel) in pairs {
+            assert_eq!(out(kind, namespace, inside), Ok(Some(kernel)));
+            assert_eq!(back(kind, namespace, kernel), Ok(Some(inside)));
+        }
+    }
+    for (kind, namespace, id) in
+        [(Kind::User, 2, 8), (Kind::Group, 2, 8), (Kind::User, 3, 3), (Kind::Group, 3, 3)]
+    {
+        assert_eq!(out(kind, namespace, id), Ok(None));
+    }
+    let kernel = [
+        (Kind::User, 2, 100006),
+        (Kind::User, 2, 200002),
+        (Kind::Group, 2, 100006),
+        (Kind::Group, 2, 200004),
+        (Kind::User, 3, 100008),
+        (Kind::Group, 3, 200000),
+    ];
+    for (kind, namespace, id) in kernel {
+        assert_eq!(back(kind, namespace, id), Ok(None));
+    }
+}
+
 #[test]
 fn full_tables_refuse() {
     let mut tables = Tables::new();
