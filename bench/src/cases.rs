@@ -79,6 +79,7 @@ pub fn rows() -> Vec<Row> {
     let words = "8 levels of 5 lines, IDs of any line";
     rows.extend(translations(8, words, FIVE_BELOW, any, TRANSLATION));
     rows.extend(translations(32, "32 levels of 5 lines", FIVE_BELOW, last, CALL));
+    // Here there are no kernel maps, and no goal is set.
     rows.extend(translations(8, "8 levels of 5 lines across", FIVE_ACROSS, last, None));
     rows.extend(translations(32, "32 levels of 5 lines across", FIVE_ACROSS, last, None));
     rows

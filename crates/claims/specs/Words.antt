@@ -106,8 +106,8 @@ abbrev pub orNone : Option (List Line) → List Line
 orNone none = []
 orNone (some ls) = ls
 
--- the lines of a map with kernel IDs on the parent side: those of the map write, each as the parent's lines of this kind have it; none where one
--- of them does not lie whole in one of those. Translation does not go by them: that the tables may is a law
+-- the kernel lines of a namespace, with kernel IDs on the parent side: the lines of the map write, each as the parent's kernel lines of that moment
+-- have it; none where one of them does not lie whole in one of those. Nothing here translates by them: that the tables may is a law
 abbrev pub composedWith : List Line → Option (List Line) → List Line
 composedWith above none = []
 composedWith above (some ls) = orNone (composedOf above ls)
