@@ -12,9 +12,9 @@ use crate::state::{self, State, FIVE_ACROSS, FIVE_BELOW, FIVE_LINES, ONE_LINE};
 use crate::table::{Kernel, Row};
 
 /// Goals in nanoseconds: of a call, of a read or write of a map, and of a translation through at most eight levels.
-const CALL: Option<f64> = Some(200.0);
-const MAP: Option<f64> = Some(1000.0);
-const TRANSLATION: Option<f64> = Some(100.0);
+const CALL: f64 = 200.0;
+const MAP: f64 = 1000.0;
+const TRANSLATION: f64 = 100.0;
 
 /// Calls in a batch, where a call can be repeated in the state that it leaves.
 const REPEATED: usize = 500;
@@ -31,7 +31,7 @@ const FULL: u64 = 0x1f_ffff_ffff;
 /// bindings and answers whether it is done.
 fn row(
     name: &str,
-    goal: Option<f64>,
+    goal: f64,
     state: &State,
     kernel: Kernel,
     calls: Vec<Call>,
@@ -79,9 +79,9 @@ pub fn rows() -> Vec<Row> {
     let words = "8 levels of 5 lines, IDs of any line";
     rows.extend(translations(8, words, FIVE_BELOW, any, TRANSLATION));
     rows.extend(translations(32, "32 levels of 5 lines", FIVE_BELOW, last, CALL));
-    // Here there are no kernel maps, and no goal is set.
-    rows.extend(translations(8, "8 levels of 5 lines across", FIVE_ACROSS, last, None));
-    rows.extend(translations(32, "32 levels of 5 lines across", FIVE_ACROSS, last, None));
+    // Here there are no kernel maps.
+    rows.extend(translations(8, "8 levels of 5 lines across", FIVE_ACROSS, last, TRANSLATION));
+    rows.extend(translations(32, "32 levels of 5 lines across", FIVE_ACROSS, last, CALL));
     rows
 }
 
@@ -300,7 +300,7 @@ fn offsets(ids: Ids) -> Vec<u32> {
 }
 
 /// Translations at a depth, which the words name, with these maps from level 2 on.
-fn translations(levels: u64, words: &str, below: &str, ids: Ids, goal: Option<f64>) -> Vec<Row> {
+fn translations(levels: u64, words: &str, below: &str, ids: Ids, goal: f64) -> Vec<Row> {
     let inside = offsets(ids);
     let kernel: Vec<u32> = inside.iter().map(|id| state::kernel_id(*id)).collect();
     let state = State::nested(levels, below);

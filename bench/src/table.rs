@@ -33,8 +33,7 @@ pub struct Row {
     pub range: (f64, f64),
     pub reference: f64,
     pub kernel: Kernel,
-    /// None where no goal is set.
-    pub goal: Option<f64>,
+    pub goal: f64,
 }
 
 impl Row {
@@ -61,9 +60,8 @@ impl Row {
     /// Which goals the row misses, and by how much.
     pub fn misses(&self) -> Vec<String> {
         let mut misses = Vec::new();
-        let over = self.goal.map_or(0.0, |goal| self.archive - goal);
-        if over > 0.0 {
-            misses.push(format!("MISSED by {over:.0} ns"));
+        if self.archive > self.goal {
+            misses.push(format!("MISSED by {:.0} ns", self.archive - self.goal));
         }
         let over = self.kernel.nanoseconds().map_or(0.0, |kernel| self.archive - kernel);
         if over > 0.0 {
@@ -78,11 +76,8 @@ impl Row {
             Kernel::Refused => ("refused".to_string(), "-".to_string()),
             Kernel::Nanoseconds(kernel) => (number(kernel), number(kernel / self.archive)),
         };
-        let verdict = match self.misses() {
-            misses if !misses.is_empty() => misses.join(", "),
-            _ if self.goal.is_none() => "no goal".to_string(),
-            _ => "met".to_string(),
-        };
+        let misses = self.misses();
+        let verdict = if misses.is_empty() { "met".to_string() } else { misses.join(", ") };
         format!(
             "| {:<52} | {:>7} | {:>12} | {:>9} | {:>7} | {:>9} | {:>7} | {:>5} | {} |",
             self.name,
@@ -92,7 +87,7 @@ impl Row {
             number(self.reference / self.archive),
             kernel,
             ratio,
-            self.goal.map_or("-".to_string(), |goal| goal.to_string()),
+            self.goal,
             verdict
         )
     }
