@@ -12,13 +12,10 @@ use Rattle.records.specs.declared.Kind.{Kind}
 use Rattle.records.specs.declared.Kind.the-variants.{User, Group}
 use Rattle.records.specs.declared.Process.{Process}
 use Rattle.records.specs.declared.Namespace.{Namespace}
-use Rattle.records.specs.declared.IdMap.{IdMap}
 use Rattle.records.specs.Records.{mapIn}
-use Rattle.records.specs.Records.{linesOf as mapLinesOf}
 use Rattle.tables.specs.declared.find.Found.the-variants.{At}
-use Rattle.tables.specs.Tables.{State, processAt, namespaceAt, kernelMaps, kernelMapAt, putProcess, putNamespace, putKernelMap}
+use Rattle.tables.specs.Tables.{State, processAt, namespaceAt, kernelMaps, kernelLines, putProcess, putNamespace, putKernelMap}
 use Rattle.tables.specs.Find.{processNamed}
-use Rattle.hierarchy.specs.Walks.{kernelLines}
 use Rattle.prelude.proofs.Tests.{by-test}
 use Rattle.claims.specs.Events.{Event}
 use Rattle.claims.specs.Words.{Held, isProcess, placeOf, heldOf, sameKind}
@@ -40,7 +37,7 @@ module _ (s : State) (isP isN : ℕ → Bool) (place up level : ℕ → ℕ) (ma
         → ((i : ℕ) → cond (eqb i q) (p .namespace) (place (suc i)) ≡ place′ (suc i))
         → ((k : Kind) (i : ℕ) → cond (eqb i q) (heldIn k p) (carries k (suc i)) ≡ carries′ k (suc i))
         → Agrees (putProcess s q p) isP′ isN place′ up level maps kernel carries′
-    unfolding namespaceAt kernelMapAt
+    unfolding namespaceAt kernelLines
     stores-process isP′ place′ carries′ e f g = record {
       process-places = simp length-set (a .process-places);
       namespace-places = a .namespace-places;
@@ -74,7 +71,7 @@ module _ (s : State) (isP isN : ℕ → Bool) (place up level : ℕ → ℕ) (ma
         → ((i : ℕ) → cond (eqb i q) (n .level) (level i) ≡ level′ i)
         → ((k : Kind) (i : ℕ) → cond (eqb i q) (writtenIn (mapIn k n)) (maps k i) ≡ maps′ k i)
         → Agrees (putNamespace s q n) isP isN′ place up′ level′ maps′ kernel carries
-    unfolding processAt kernelMapAt
+    unfolding processAt kernelLines
     stores-namespace isN′ up′ level′ maps′ e f g m = record {
       process-places = a .process-places;
       namespace-places = simp length-set (a .namespace-places);
@@ -89,14 +86,12 @@ module _ (s : State) (isP isN : ℕ → Bool) (place up level : ℕ → ℕ) (ma
       namespace-kernel = a .namespace-kernel;
     }
 
-  -- kernel map m of kind j is stored at place q
-  module _ (j : Kind) (q : ℕ) (m : IdMap) (h : q < length (kernelMaps j s)) (kernel′ : Kind → ℕ → List Line)
-      (e : (k : Kind) (i : ℕ) → cond (sameKind k j && eqb i q) (mapLinesOf m) (kernel k i) ≡ kernel′ k i) where
+  -- kernel lines m of kind j are stored at place q
+  module _ (j : Kind) (q : ℕ) (m : List Line) (h : q < length (kernelMaps j s)) (kernel′ : Kind → ℕ → List Line)
+      (e : (k : Kind) (i : ℕ) → cond (sameKind k j && eqb i q) m (kernel k i) ≡ kernel′ k i) where
     kernel-after : (k : Kind) (i : ℕ) → kernelLines (putKernelMap s j q m) k i ≡ kernel′ k i
     kernel-after k i =
-        ap (λ (r : IdMap). mapLinesOf r) (read-kernel s j q m k i h)
-        ∙ cond-ap (λ (r : IdMap). mapLinesOf r) (sameKind k j && eqb i q) m (kernelMapAt s k i)
-        ∙ rw (a .namespace-kernel k i) (e k i)
+        read-kernel s j q m k i h ∙ rw (a .namespace-kernel k i) (e k i)
 
     length-after : (k : Kind) → length (kernelMaps k (putKernelMap s j q m)) ≡ length (kernelMaps k s)
     length-after k = by-kinds k j

@@ -7,21 +7,22 @@ use mathlib.Core.List.{List, [], _∷_}
 use mathlib.Core.Option.{Option, none, some}
 use native.Mathlib.Omega.{arith}
 use lib.Dec.{eqb, leb}
+use lib.ListN.{length}
 use borrow.Author.Tests.{eq-eqb, ne-eqb, eqb-true, eqb-false, lt-ltb, le-ltb}
 use Rattle.idmap.specs.declared.Line.{Line}
 use Rattle.idmap.specs.declared.Translated.{Translated}
 use Rattle.idmap.specs.declared.Translated.the-variants.{Id}
 use Rattle.idmap.specs.Line.{inRange}
-use Rattle.idmap.specs.Lookup.{movedBy, out, thenId, reachOf}
+use Rattle.idmap.specs.Lookup.{movedBy, out, thenId}
 use Rattle.idmap.specs.Good.{noId, goodOf}
-use Rattle.idmap.specs.Text.{consOf, allOf, mapLines}
-use Rattle.idmap.specs.Compose.{liftedOf, composedOf}
+use Rattle.idmap.specs.Text.{mapLines}
 use Rattle.idmap.proofs.Translation.{two-answers, out-here, out-later}
-use Rattle.idmap.proofs.Composition.{composed-good, composed-out}
+use Rattle.kernel_map.specs.Compose.{composedOf, maxPieces, liftedOf}
+use Rattle.kernel_map.proofs.Composition.{composed-over-none, composed-good, composed-out}
 use Rattle.records.specs.declared.Kind.{Kind}
 use Rattle.hierarchy.specs.Walks.{itself}
 use Rattle.prelude.proofs.Tests.{by-test, and-left, and-right}
-use Rattle.claims.specs.Words.{sameKind, fixedLine, orNone, composedWith}
+use Rattle.claims.specs.Words.{sameKind, fixedLine, orNone, liftedBy}
 use Rattle.claims.specs.Translation.{outBy}
 use Rattle.claims.proofs.Sound.{map-lines-good}
 use Rattle.claims.proofs.Levels.{by-translated}
@@ -31,38 +32,32 @@ use Rattle.claims.proofs.Kept.{same-kind}
 pub empty : (l : Line) (ls : List Line) → l ∷ ls ≡ [] → ⊥
 empty l ls e = let z : _≡_ {A = ℕ} 0 1 = cc in omega arith
 
-none-lifted : (t : Bool) → _≡_ {A = Option Line} (cond t none none) none
-none-lifted true = refl
-none-lifted false = refl
-
 -- lines over no lines are none
-over-none : (ls : List Line) → orNone (composedOf [] ls) ≡ []
-unfolding composedOf allOf liftedOf out reachOf consOf
-over-none [] = refl
-over-none (l ∷ ls) = rw (none-lifted (leb (l .count) 0))
+lifted-over-none : (o : Option (List Line)) → liftedBy [] o ≡ []
+unfolding liftedOf
+lifted-over-none none = refl
+lifted-over-none (some ls) = rw (composed-over-none ls)
 
-composed-over-none : (o : Option (List Line)) → composedWith [] o ≡ []
-composed-over-none none = refl
-composed-over-none (some ls) = over-none ls
-
--- the two laws of composed lines, also where they are none
-or-good : (o : Option (List Line)) → ((ks : List Line) → o ≡ some ks → goodOf ks ≡ true) → goodOf (orNone o) ≡ true
+-- the two laws of composed lines, also where they are too many and so none
+fitting-good : (t : Bool) (ks : List Line) → goodOf ks ≡ true → goodOf (cond t ks []) ≡ true
 unfolding goodOf
-or-good none f = refl
-or-good (some ks) f = f ks refl
+fitting-good true ks g = g
+fitting-good false ks g = refl
 
-or-out : (o : Option (List Line)) (t : ℕ → Translated) → ((ks : List Line) → o ≡ some ks → (x : ℕ) → out ks x ≡ t x) → (orNone o ≡ [] → ⊥) → (x : ℕ) → out (orNone o) x ≡ t x
-or-out none t f g x = absurd (g refl)
-or-out (some ks) t f g x = f ks refl x
+fitting-all : (t : Bool) (ks : List Line) → (cond t ks [] ≡ [] → ⊥) → cond t ks [] ≡ ks
+fitting-all true ks f = refl
+fitting-all false ks f = absurd (f refl)
 
-with-good : (above : List Line) (o : Option (List Line)) → goodOf above ≡ true → goodOf (orNone o) ≡ true → goodOf (composedWith above o) ≡ true
-unfolding goodOf
+with-good : (above : List Line) (o : Option (List Line)) → goodOf above ≡ true → goodOf (orNone o) ≡ true → goodOf (liftedBy above o) ≡ true
+unfolding goodOf liftedOf
 with-good above none g s = refl
-with-good above (some ls) g s = or-good (composedOf above ls) (λ ks e. composed-good above ls ks g s e)
+with-good above (some ls) g s = fitting-good (leb (length (composedOf above ls)) maxPieces) (composedOf above ls) (composed-good above ls g s)
 
-with-out : (above : List Line) (o : Option (List Line)) → goodOf above ≡ true → goodOf (orNone o) ≡ true → (composedWith above o ≡ [] → ⊥) → (x : ℕ) → out (composedWith above o) x ≡ thenId (out (orNone o) x) (out above)
+with-out : (above : List Line) (o : Option (List Line)) → goodOf above ≡ true → goodOf (orNone o) ≡ true → (liftedBy above o ≡ [] → ⊥) → (x : ℕ) → out (liftedBy above o) x ≡ thenId (out (orNone o) x) (out above)
+unfolding liftedOf
 with-out above none g s f x = absurd (f refl)
-with-out above (some ls) g s f x = or-out (composedOf above ls) (λ (y : ℕ). thenId (out ls y) (out above)) (λ ks e. composed-out above ls ks g s e) f x
+with-out above (some ls) g s f x =
+    ap (λ (ks : List Line). out ks x) (fitting-all (leb (length (composedOf above ls)) maxPieces) (composedOf above ls) f) ∙ composed-out above ls g s x
 
 -- a lookup gives an ID of 32 bits
 pub out-small : (ls : List Line) (x z : ℕ) → out ls x ≡ Id z → z < 2 ^ 32
@@ -128,10 +123,10 @@ module _ (up : ℕ → ℕ) (maps : Kind → ℕ → Option (List Line)) (kernel
         (λ t. t)
 
     -- the new lines are some, so the parent's were
-    there : (k : Kind) → (composedWith (kernel k (up n)) (mapLines text) ≡ [] → ⊥) → kernel k (up n) ≡ [] → ⊥
-    there k f q = f (ap (λ (above : List Line). composedWith above (mapLines text)) q ∙ composed-over-none (mapLines text))
+    there : (k : Kind) → (liftedBy (kernel k (up n)) (mapLines text) ≡ [] → ⊥) → kernel k (up n) ≡ [] → ⊥
+    there k f q = f (ap (λ (above : List Line). liftedBy above (mapLines text)) q ∙ lifted-over-none (mapLines text))
 
-    pub written : Once up (λ (k : Kind) (m : ℕ). cond (hit k m) (mapLines text) (maps k m)) (λ (k : Kind) (m : ℕ). cond (hit k m) (composedWith (kernel k (up n)) (mapLines text)) (kernel k m))
+    pub written : Once up (λ (k : Kind) (m : ℕ). cond (hit k m) (mapLines text) (maps k m)) (λ (k : Kind) (m : ℕ). cond (hit k m) (liftedBy (kernel k (up n)) (mapLines text)) (kernel k m))
     written = record {
       root = λ k. by-test (hit k 0) (λ t. absurd (not-root j n e (sym (place-is k 0 t)))) (λ t. rw t (o .root k));
       good = λ k m.

@@ -11,23 +11,22 @@ use lib.Seq.{take-append-seam}
 use Rattle.idmap.specs.declared.Line.{Line}
 use Rattle.idmap.specs.Line.{noLine}
 use Rattle.idmap.specs.Good.{maxLines}
-use Rattle.idmap.specs.Compose.{composedOf}
 use Rattle.idmap.specs.Text.{mapLines, padded}
+use Rattle.kernel_map.specs.Compose.{liftedOf}
 use Rattle.records.specs.declared.Kind.{Kind}
 use Rattle.records.specs.declared.Kind.the-variants.{User, Group}
 use Rattle.records.specs.declared.Namespace.{Namespace}
 use Rattle.records.specs.declared.MapState.{MapState}
 use Rattle.records.specs.declared.MapState.the-variants.{Unwritten, Written}
 use Rattle.records.specs.declared.IdMap.{IdMap}
-use Rattle.records.specs.Records.{mapIn, isWritten, linesOf}
+use Rattle.records.specs.Records.{mapIn, isWritten}
 use Rattle.tables.specs.declared.find.Found.the-variants.{At}
-use Rattle.tables.specs.Tables.{State, processAt, namespaceAt, putNamespace}
+use Rattle.tables.specs.Tables.{State, processAt, namespaceAt, kernelLines, putNamespace}
 use Rattle.tables.specs.Find.{processNamed}
-use Rattle.hierarchy.specs.Walks.{kernelLines}
-use Rattle.mapping.specs.Calls.{writtenMap, mapOrNone, kernelMapOf, withMap, mappedTables, writeMapOf, withDeny, writeSetgroupsOf}
+use Rattle.mapping.specs.Calls.{writtenMap, withMap, mappedTables, writeMapOf, withDeny, writeSetgroupsOf}
 use Rattle.calls.specs.declared.Call.the-variants.{WriteMap, WriteSetgroups}
 use Rattle.claims.specs.Events.{Event, other, mapped}
-use Rattle.claims.specs.Words.{isProcess, isNamespace, placeOf, parentOf, levelOf, mapOf, kernelOf, composedWith, orNone, heldOf, sameKind}
+use Rattle.claims.specs.Words.{isProcess, isNamespace, placeOf, parentOf, levelOf, mapOf, kernelOf, liftedBy, heldOf, sameKind}
 use Rattle.claims.specs.Agreement.{linesIf, writtenIn, Agreed}
 use Rattle.claims.proofs.Allowed.{SoundAt}
 use Rattle.claims.proofs.Stores.{namespace-in-range}
@@ -63,15 +62,6 @@ written-lines : (ls : List Line) → writtenIn (writtenMap ls) ≡ some ls
 unfolding padded
 written-lines ls = ap some (take-append-seam ls (replicate (maxLines - length ls) noLine))
 
--- the lines of a kernel map
-kernel-lines-of : (above ls : List Line) → linesOf (kernelMapOf above ls) ≡ orNone (composedOf above ls)
-unfolding kernelMapOf padded
-kernel-lines-of above ls = by-option (composedOf above ls)
-  where
-    by-option : (o : Option (List Line)) → linesOf (mapOrNone o) ≡ orNone o
-    by-option none = refl
-    by-option (some ks) = take-append-seam ks (replicate (maxLines - length ks) noLine)
-
 unwritten-is : (m : IdMap) → isWritten (m .state) ≡ false → writtenIn m ≡ none
 unwritten-is m e = by-state (m .state) e
   where
@@ -99,8 +89,8 @@ module _ (s : State) (h : List Event) (a : Agreed s h) (d : SoundAt h) (text lis
 
     -- the kernel lines alike
     kernel-after : (k j : Kind) (ls : List Line) → mapLines text ≡ some ls → (i : ℕ)
-        → cond (sameKind k j && eqb i (processAt s p .namespace)) (linesOf (kernelMapOf (kernelLines s j (namespaceAt s (processAt s p .namespace) .parent)) ls)) (kernelOf k h i)
-        ≡ cond (sameKind k j && eqb i (placeOf h name)) (composedWith (kernelOf k h (parentOf h (placeOf h name))) (mapLines text)) (kernelOf k h i)
+        → cond (sameKind k j && eqb i (processAt s p .namespace)) (liftedOf (kernelLines s j (namespaceAt s (processAt s p .namespace) .parent)) ls) (kernelOf k h i)
+        ≡ cond (sameKind k j && eqb i (placeOf h name)) (liftedBy (kernelOf k h (parentOf h (placeOf h name))) (mapLines text)) (kernelOf k h i)
     kernel-after k j ls m i =
         by-test (sameKind k j && eqb i (placeOf h name))
         (λ t.
@@ -108,8 +98,8 @@ module _ (s : State) (h : List Event) (a : Agreed s h) (d : SoundAt h) (text lis
         a .namespace-kernel j (namespaceAt s (processAt s p .namespace) .parent)
         ∙ ap (kernelOf j h) (a .namespace-parent (processAt s p .namespace) ∙ ap (parentOf h) (caller-place s h a name p e))
         ∙ ap (λ (x : Kind). kernelOf x h (parentOf h (placeOf h name))) (sym (same-kind k j (and-left (sameKind k j) (eqb i (placeOf h name)) t))) in
-        let r : linesOf (kernelMapOf (kernelLines s j (namespaceAt s (processAt s p .namespace) .parent)) ls) ≡ composedWith (kernelOf k h (parentOf h (placeOf h name))) (mapLines text) =
-        kernel-lines-of (kernelLines s j (namespaceAt s (processAt s p .namespace) .parent)) ls ∙ ap (λ (above : List Line). orNone (composedOf above ls)) q ∙ rw m in
+        let r : liftedOf (kernelLines s j (namespaceAt s (processAt s p .namespace) .parent)) ls ≡ liftedBy (kernelOf k h (parentOf h (placeOf h name))) (mapLines text) =
+        ap (λ (above : List Line). liftedOf above ls) q ∙ rw m in
         rw (r, caller-place s h a name p e, t))
         (λ t. rw (caller-place s h a name p e, t))
 

@@ -6,15 +6,15 @@ use Rattle.capability.specs.Sets.{holds}
 use Rattle.idmap.specs.Lookup.{out, reachOf}
 use Rattle.idmap.specs.Good.{fitsOf, boundedOf, apartSide, apartOf, allApart, goodOf}
 use Rattle.idmap.specs.Cover.{coveredIn, coveredOf}
-use Rattle.idmap.specs.Compose.{liftedOf, composedOf}
 use Rattle.idmap.specs.Text.{pieces, filled, consOf, allOf, allDigits, decimal, numberOf, numbersOf, threeOf, lineOf, textLines, checked, mapLines}
 use Rattle.idmap.specs.Text.{padded}
 use Rattle.idmap.specs.Show.{shown, numberText, lineColumns, lineText, linesText}
-use Rattle.tables.specs.Tables.{processAt, namespaceAt, kernelMapAt, firstKernelMaps, initialTables}
+use Rattle.kernel_map.specs.Compose.{commonOf, piecesOf, withIds, composedOf, liftedOf}
+use Rattle.tables.specs.Tables.{processAt, namespaceAt, kernelLines, firstKernelMaps, initialTables}
 use Rattle.tables.specs.Find.{processNamed, namespaceNamed, freeFrom, freeProcessPlace, freeNamespacePlace}
 use Rattle.hierarchy.specs.Walks.{heightOf, outIn, toKernel, backIn, fromKernel, ownedBy, holdsIn, capableIn}
 use Rattle.process.specs.Calls.{forkOf, knowsItself, below, entered, unshareOf}
-use Rattle.mapping.specs.Calls.{isNear, singleLine, mayMap, allCovered, kernelMapOf, withMap, mappedTables, writeLinesTo, writeMapTo, writeMapOf}
+use Rattle.mapping.specs.Calls.{isNear, singleLine, mayMap, allCovered, withMap, mappedTables, writeLinesTo, writeMapTo, writeMapOf}
 use Rattle.mapping.specs.Calls.{sameBytes, isWord, withDeny, settingIn, writeSetgroupsTo, writeSetgroupsOf}
 use Rattle.mapping.specs.Calls.{readText, viewOf, shownLine, mapTextOf, readMapOf}
 use Rattle.credentials.specs.Calls.{withUsers, withGroups, mayTake, setIdsOf, setGroupsOf, capableReply, translateReply}
@@ -29,13 +29,13 @@ each [] e = tt
 each (c ∷ cs) e = (head-eq-of-cons-eq e, each cs (tail-eq-of-cons-eq e))
 
 pub scenarios-come-out : AllComeOut
-unfolding fitsAt putAt holds out reachOf fitsOf boundedOf apartSide apartOf allApart goodOf coveredIn coveredOf liftedOf composedOf
+unfolding fitsAt putAt holds out reachOf fitsOf boundedOf apartSide apartOf allApart goodOf coveredIn coveredOf commonOf piecesOf withIds composedOf liftedOf
     pieces filled consOf allOf allDigits decimal numberOf numbersOf threeOf lineOf textLines checked mapLines padded
     shown numberText lineColumns lineText linesText
-    processAt namespaceAt kernelMapAt firstKernelMaps initialTables processNamed namespaceNamed freeFrom freeProcessPlace freeNamespacePlace
+    processAt namespaceAt kernelLines firstKernelMaps initialTables processNamed namespaceNamed freeFrom freeProcessPlace freeNamespacePlace
     heightOf outIn toKernel backIn fromKernel ownedBy holdsIn capableIn
     forkOf knowsItself below entered unshareOf
-    isNear singleLine mayMap allCovered kernelMapOf withMap mappedTables writeLinesTo writeMapTo writeMapOf
+    isNear singleLine mayMap allCovered withMap mappedTables writeLinesTo writeMapTo writeMapOf
     sameBytes isWord withDeny settingIn writeSetgroupsTo writeSetgroupsOf readText viewOf shownLine mapTextOf readMapOf
     withUsers withGroups mayTake setIdsOf setGroupsOf capableReply translateReply
     answerBy runFrom answersFrom

@@ -2,23 +2,22 @@
 use Prim.Native.Nat.{ℕ, zero, suc}
 use mathlib.Core.Path.{_≡_, refl, sym, ap, _∙_}
 use mathlib.Core.Bool.{Bool, true, false, cond}
-use mathlib.Core.List.{[], _∷_}
+use mathlib.Core.List.{List, [], _∷_}
 use mathlib.Core.Option.{none}
 use native.Mathlib.Omega.{arith}
 use lib.Dec.{eqb}
 use lib.ListN.{length, getD, replicate, length-replicate}
+use Rattle.idmap.specs.declared.Line.{Line}
 use Rattle.records.specs.declared.Kind.{Kind}
 use Rattle.records.specs.declared.Kind.the-variants.{User, Group}
 use Rattle.records.specs.declared.Process.{Process}
 use Rattle.records.specs.declared.Namespace.{Namespace}
-use Rattle.records.specs.declared.IdMap.{IdMap}
-use Rattle.records.specs.Records.{freeProcess, freeMap, freeNamespace, mapIn, linesOf}
-use Rattle.tables.specs.Tables.{State, processAt, namespaceAt, kernelMaps, kernelMapAt, putProcess, firstProcess, fixedMap, rootNamespace, firstKernelMaps, initialTables, allZero}
-use Rattle.hierarchy.specs.Walks.{kernelLines}
+use Rattle.records.specs.Records.{freeProcess, freeNamespace, mapIn}
+use Rattle.tables.specs.Tables.{State, processAt, namespaceAt, kernelMaps, kernelLines, putProcess, firstProcess, rootNamespace, firstKernelMaps, initialTables, allZero}
 use Rattle.prelude.proofs.Tests.{by-test}
 use Rattle.claims.specs.Words.{isProcess, isNamespace, placeOf, parentOf, levelOf, fixedLine, mapOf, kernelOf, heldOf}
 use Rattle.claims.specs.Agreement.{heldIn, writtenIn, Agrees, Agreed}
-use Rattle.claims.proofs.Stores.{cond-ap, stored-or-kept, next-number}
+use Rattle.claims.proofs.Stores.{stored-or-kept, next-number}
 use Rattle.claims.proofs.Agree.{stores-process, stores-namespace}
 
 all-same : {A : Type 0} (x : A) (n i : ℕ) → getD (replicate n x) i x ≡ x
@@ -43,15 +42,13 @@ unfolding firstKernelMaps
 first-places User = refl
 first-places Group = refl
 
-first-line : (i : ℕ) → linesOf (getD firstKernelMaps i freeMap) ≡ cond (eqb i 0) (fixedLine ∷ []) []
+first-line : (i : ℕ) → getD firstKernelMaps i [] ≡ cond (eqb i 0) (fixedLine ∷ []) []
 unfolding firstKernelMaps
 first-line i =
-    ap (λ (m : IdMap). linesOf m) (stored-or-kept (replicate 64 freeMap) 0 fixedMap freeMap i (rw (length-replicate) (omega arith)))
-    ∙ cond-ap (λ (m : IdMap). linesOf m) (eqb i 0) fixedMap (getD (replicate 64 freeMap) i freeMap)
-    ∙ rw (all-same freeMap 64 i)
+    stored-or-kept (replicate 64 []) 0 (fixedLine ∷ []) [] i (rw (length-replicate) (omega arith)) ∙ rw (all-same {A = List Line} [] 64 i)
 
 first-lines : (k : Kind) (i : ℕ) → kernelLines empty k i ≡ kernelOf k [] i
-unfolding kernelMapAt kernelOf
+unfolding kernelLines kernelOf
 first-lines User i = first-line i
 first-lines Group i = first-line i
 

@@ -13,8 +13,7 @@ use Rattle.records.specs.declared.MapState.{MapState}
 use Rattle.records.specs.declared.MapState.the-variants.{Unwritten, Written}
 use Rattle.records.specs.declared.IdMap.{IdMap}
 use Rattle.records.specs.Records.{idsIn, mapIn}
-use Rattle.tables.specs.Tables.{State, processAt, namespaceAt, kernelMaps}
-use Rattle.hierarchy.specs.Walks.{kernelLines}
+use Rattle.tables.specs.Tables.{State, processAt, namespaceAt, kernelMaps, kernelLines}
 use Rattle.claims.specs.Events.{Event}
 use Rattle.claims.specs.Words.{Held, isProcess, isNamespace, placeOf, parentOf, levelOf, mapOf, kernelOf, heldOf}
 

@@ -9,8 +9,8 @@ use Rattle.idmap.specs.declared.Line.{Line}
 use Rattle.idmap.specs.declared.Translated.{Translated}
 use Rattle.idmap.specs.declared.Translated.the-variants.{Id, Unmapped}
 use Rattle.idmap.specs.Good.{noId}
-use Rattle.idmap.specs.Compose.{composedOf}
 use Rattle.idmap.specs.Text.{mapLines}
+use Rattle.kernel_map.specs.Compose.{liftedOf}
 use Rattle.records.specs.declared.Kind.{Kind}
 use Rattle.records.specs.declared.Kind.the-variants.{User, Group}
 use Rattle.records.specs.declared.Ids.{Ids}
@@ -106,11 +106,11 @@ abbrev pub orNone : Option (List Line) → List Line
 orNone none = []
 orNone (some ls) = ls
 
--- the kernel lines of a namespace, with kernel IDs on the parent side: the lines of the map write, each as the parent's kernel lines of that moment
--- have it; none where one of them does not lie whole in one of those. Nothing here translates by them: that the tables may is a law
-abbrev pub composedWith : List Line → Option (List Line) → List Line
-composedWith above none = []
-composedWith above (some ls) = orNone (composedOf above ls)
+-- the kernel lines of a namespace, with kernel IDs on the parent side: the pieces that the lines of the map write have in common with the parent's
+-- kernel lines of that moment; none where they are too many. Nothing here translates by them: that the tables may is a law
+abbrev pub liftedBy : List Line → Option (List Line) → List Line
+liftedBy above none = []
+liftedBy above (some ls) = liftedOf above ls
 
 unfoldable pub kernelOf : Kind → List Event → ℕ → List Line
 kernelOf k [] m = cond (eqb m 0) (fixedLine ∷ []) []
@@ -120,7 +120,7 @@ kernelOf k (cloned c q n ∷ h) m = kernelOf k h m
 kernelOf k (unshared c n ∷ h) m = kernelOf k h m
 kernelOf k (joined c n ∷ h) m = kernelOf k h m
 kernelOf k (mapped j q text ∷ h) m =
-    cond (sameKind k j && eqb m (placeOf h q)) (composedWith (kernelOf k h (parentOf h (placeOf h q))) (mapLines text)) (kernelOf k h m)
+    cond (sameKind k j && eqb m (placeOf h q)) (liftedBy (kernelOf k h (parentOf h (placeOf h q))) (mapLines text)) (kernelOf k h m)
 kernelOf k (changed j c new ∷ h) m = kernelOf k h m
 kernelOf k (grouped c list ∷ h) m = kernelOf k h m
 

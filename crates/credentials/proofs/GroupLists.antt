@@ -19,7 +19,7 @@ use Rattle.records.specs.declared.GroupList.{GroupList}
 use Rattle.records.specs.declared.Process.{Process}
 use Rattle.records.specs.declared.Namespace.{Namespace}
 use Rattle.records.specs.Records.{isWritten}
-use Rattle.tables.specs.Tables.{State, tablesOf, processAt, namespaceAt, putProcess}
+use Rattle.tables.specs.Tables.{State, tablesOf, processAt, namespaceAt, putProcess, kernelLines}
 use Rattle.tables.specs.Find.{processNamed}
 use Rattle.tables.specs.Reply.{Outcome, done, refuse, Promise}
 use Rattle.tables.specs.declared.find.Found.{Found}
@@ -27,7 +27,7 @@ use Rattle.tables.specs.declared.find.Found.the-variants.{At, Nothing}
 use Rattle.tables.specs.declared.answer.Errno.the-variants.{EPERM, ESRCH, EINVAL}
 use Rattle.tables.specs.declared.answer.Answer.the-variants.{Refused, Done}
 use Rattle.tables.proofs.Promises.{refuses, answers}
-use Rattle.hierarchy.specs.Walks.{kernelLines, toKernel, capableIn}
+use Rattle.hierarchy.specs.Walks.{toKernel, capableIn}
 use Rattle.hierarchy.proofs.Translations.{to-once}
 use Rattle.credentials.specs.declared.groups.Listed.{Listed}
 use Rattle.credentials.specs.Calls.{toOption, groupList, withList, thenList, kernelGroups, listedOf, setGroupsOf}

@@ -16,13 +16,13 @@ use Rattle.records.specs.declared.Kind.the-variants.{User, Group}
 use Rattle.records.specs.declared.Ids.{Ids}
 use Rattle.records.specs.declared.GroupList.{GroupList}
 use Rattle.records.specs.declared.Process.{Process}
-use Rattle.tables.specs.Tables.{State, processAt}
+use Rattle.tables.specs.Tables.{State, processAt, kernelLines}
 use Rattle.tables.specs.Find.{processNamed}
 use Rattle.tables.specs.declared.find.Found.{Found}
 use Rattle.tables.specs.declared.find.Found.the-variants.{At, Nothing}
 use Rattle.tables.specs.declared.answer.Errno.the-variants.{ESRCH}
 use Rattle.tables.specs.declared.answer.Answer.the-variants.{Refused, Own}
-use Rattle.hierarchy.specs.Walks.{heightOf, itself, kernelLines, backIn, fromKernel}
+use Rattle.hierarchy.specs.Walks.{heightOf, itself, backIn, fromKernel}
 use Rattle.hierarchy.proofs.Translations.{from-root, from-once, from-levels}
 use Rattle.credentials.specs.declared.own.OwnIds.{OwnIds}
 use Rattle.credentials.specs.Calls.{shownAs, seen, seenIds, noIds, groupList, seenGroups, ownIdsOf}

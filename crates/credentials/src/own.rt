@@ -1,8 +1,7 @@
 // A process's own IDs, as seen in its namespace.
 ghost use mathlib.Core.Path.{_≡_};
 ghost use Rattle.idmap.specs.Line.{linesIn};
-ghost use Rattle.tables.specs.Tables.{tablesOf};
-ghost use Rattle.hierarchy.specs.Walks.{kernelLines};
+ghost use Rattle.tables.specs.Tables.{tablesOf, kernelLines};
 ghost use Rattle.credentials.specs.Calls.{shownAs, seen, seenIds, seenGroups, ownIdsOf};
 use hierarchy::translate::back_by_levels;
 use hierarchy::translate::same;

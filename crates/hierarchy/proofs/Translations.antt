@@ -14,8 +14,8 @@ use Rattle.idmap.specs.Lookup.{out, thenId, back}
 use Rattle.records.specs.declared.Kind.{Kind}
 use Rattle.records.specs.declared.Namespace.{Namespace}
 use Rattle.records.specs.Records.{mapIn, linesOf}
-use Rattle.tables.specs.Tables.{State, namespaceAt}
-use Rattle.hierarchy.specs.Walks.{heightOf, itself, outIn, atOnce, kernelLines, toKernel, backIn, fromKernel}
+use Rattle.tables.specs.Tables.{State, namespaceAt, kernelLines}
+use Rattle.hierarchy.specs.Walks.{heightOf, itself, outIn, atOnce, toKernel, backIn, fromKernel}
 
 -- ---- height
 module _ (s : State) (place : ℕ) (n : Namespace) (read : n ≡ namespaceAt s place) where

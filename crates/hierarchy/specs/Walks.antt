@@ -12,7 +12,7 @@ use Rattle.idmap.specs.Lookup.{out, thenId, back}
 use Rattle.records.specs.declared.Kind.{Kind}
 use Rattle.records.specs.declared.Process.{Process}
 use Rattle.records.specs.declared.Namespace.{Namespace}
-use Rattle.tables.specs.Tables.{State, namespaceAt, kernelMapAt}
+use Rattle.tables.specs.Tables.{State, namespaceAt, kernelLines}
 use Rattle.records.specs.Records.{mapIn, linesOf}
 
 -- how many steps lead from a namespace to the initial one: its level, which reaches 32 at most
@@ -33,9 +33,6 @@ outIn s kind (suc k) n x =
 abbrev pub atOnce : List Line → Translated → Translated → Translated
 atOnce [] once levels = levels
 atOnce (l ∷ ls) once levels = once
-
-abbrev pub kernelLines : State → Kind → ℕ → List Line
-kernelLines s kind n = linesOf (kernelMapAt s kind n)
 
 -- the kernel ID (document 01: station-wide ID) that an ID of namespace n stands for. That it is the one that going out level by level gives is
 -- proved of the tables that calls leave: claims, `Bounds`

@@ -23,7 +23,7 @@ bounded-fact l e =
     let k = both (leb (l .inside + l .count) noId) (leb (l .parent + l .count) noId) (h .1) in
     record { some = ltb-true 0 (l .count) (h .0); inside-fits = leb-true _ _ (k .0); parent-fits = leb-true _ _ (k .1) }
 
-bounded-test : (l : Line) → Bounded l → boundedOf l ≡ true
+pub bounded-test : (l : Line) → Bounded l → boundedOf l ≡ true
 unfolding boundedOf fitsOf
 bounded-test l b = rw (lt-ltb 0 (l .count) (b .some), le-leb (l .inside + l .count) noId (b .inside-fits), le-leb (l .parent + l .count) noId (b .parent-fits))
 
@@ -46,7 +46,7 @@ apart-fact l m e =
     let h = both (apartSide (l .inside) (l .count) (m .inside) (m .count)) (apartSide (l .parent) (l .count) (m .parent) (m .count)) e in
     record { on-inside = side-fact _ _ _ _ (h .0); on-parent = side-fact _ _ _ _ (h .1) }
 
-apart-test : (l m : Line) → Bounded l → Bounded m → Apart l m → apartOf l m ≡ true
+pub apart-test : (l m : Line) → Bounded l → Bounded m → Apart l m → apartOf l m ≡ true
 unfolding apartOf
 apart-test l m b d a =
     and-i _ _ (side-test _ _ _ _ (b .some) (d .some) (a .on-inside)) (side-test _ _ _ _ (b .some) (d .some) (a .on-parent))

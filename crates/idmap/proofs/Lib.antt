@@ -5,7 +5,6 @@ pub mod Interval
 pub mod Goodness
 pub mod Translation
 pub mod Covers
-pub mod Composition
 pub mod Collecting
 pub mod Scans
 pub mod Fields

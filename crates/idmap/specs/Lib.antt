@@ -2,7 +2,6 @@ pub mod Line
 pub mod Lookup
 pub mod Good
 pub mod Cover
-pub mod Compose
 pub mod Text
 pub mod Show
 pub mod Scan

@@ -6,13 +6,13 @@ ghost use Rattle.idmap.specs.Good.{fitsOf, boundedOf, apartSide, apartOf
 use crate::Line;
 use crate::MAX_LINES;
 
-fn least(a: u64, b: u64) -> u64
+pub fn least(a: u64, b: u64) -> u64
     ensures { λ r. ⌜ r ≡ min a b ⌝ }
 {
     if a < b { a } else { b }
 }
 
-fn most(a: u64, b: u64) -> u64
+pub fn most(a: u64, b: u64) -> u64
     ensures { λ r. ⌜ r ≡ max a b ⌝ }
 {
     if a < b { b } else { a }

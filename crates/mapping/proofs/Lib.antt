@@ -1,4 +1,3 @@
-pub mod KernelMaps
 pub mod Writes
 pub mod Reading
 pub mod Settings

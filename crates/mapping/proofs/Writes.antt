@@ -20,6 +20,7 @@ use Rattle.idmap.specs.Line.{noLine, linesIn}
 use Rattle.idmap.specs.Good.{maxLines}
 use Rattle.idmap.specs.Cover.{coveredOf}
 use Rattle.idmap.specs.Text.{mapLines, mapText, padded}
+use Rattle.kernel_map.specs.Compose.{liftedOf, countedLines}
 use Rattle.records.specs.declared.Kind.{Kind}
 use Rattle.records.specs.declared.Kind.the-variants.{User, Group}
 use Rattle.records.specs.declared.Ids.{Ids}
@@ -33,12 +34,12 @@ use Rattle.tables.specs.declared.answer.Answer.{Answer}
 use Rattle.tables.specs.declared.answer.Answer.the-variants.{Refused, Done}
 use Rattle.tables.specs.declared.find.Found.{Found}
 use Rattle.tables.specs.declared.find.Found.the-variants.{At, Nothing}
-use Rattle.tables.specs.Tables.{State, tablesOf, processAt, namespaceAt, putNamespace, putKernelMap}
+use Rattle.tables.specs.Tables.{State, tablesOf, processAt, namespaceAt, kernelLines, putNamespace, putKernelMap}
 use Rattle.tables.specs.Find.{processNamed}
 use Rattle.tables.specs.Reply.{Outcome, Promise}
 use Rattle.tables.proofs.Promises.{refuses, answers}
-use Rattle.hierarchy.specs.Walks.{kernelLines, toKernel, capableIn}
-use Rattle.mapping.specs.Calls.{isNear, isId, mayByKind, singleLine, mayMap, allCovered, kernelMapOf, withMap, writtenMap, mappedTables, writeLinesTo, writeMapTo, writeMapOf}
+use Rattle.hierarchy.specs.Walks.{toKernel, capableIn}
+use Rattle.mapping.specs.Calls.{isNear, isId, mayByKind, singleLine, mayMap, allCovered, withMap, writtenMap, mappedTables, writeLinesTo, writeMapTo, writeMapOf}
 
 -- ---- near
 module _ (s : State) (w : Process) (n : ℕ) where
@@ -185,10 +186,10 @@ module _ (l text : List ℕ) (kind : Kind) (w : Process) (n : ℕ) (r : MapText)
         unfolding writeLinesTo
         lines-uncovered z = refuses EPERM l (writeLinesTo (tablesOf l) kind w n text) (sym (rw (read-lines, ← q, y, ← tgt, ← cover-is, z)))
 
-        pub lines-done : (new : Namespace) (l′ l″ ws′ : List ℕ) (kernel : IdMap) → u ≡ true
-            → linesIn ws′ ≡ kernelLines (tablesOf l) kind (m .parent) → kernel ≡ kernelMapOf (linesIn ws′) (take k (r .lines))
+        pub lines-done : (new : Namespace) (l′ l″ ws′ kernel : List ℕ) → u ≡ true
+            → linesIn ws′ ≡ kernelLines (tablesOf l) kind (m .parent) → countedLines kernel ≡ liftedOf (linesIn ws′) (take k (r .lines))
             → new ≡ withMap kind m (record { state = Written k; lines = r .lines })
-            → tablesOf l′ ≡ putNamespace (tablesOf l) n new → tablesOf l″ ≡ putKernelMap (tablesOf l′) kind n kernel
+            → tablesOf l′ ≡ putNamespace (tablesOf l) n new → tablesOf l″ ≡ putKernelMap (tablesOf l′) kind n (countedLines kernel)
             → Promise Done l l″ (writeLinesTo (tablesOf l) kind w n text)
         unfolding writeLinesTo mappedTables
         lines-done new l′ l″ ws′ kernel z high c e p p′ =

@@ -11,9 +11,9 @@ use Rattle.idmap.specs.declared.Translated.{Translated}
 use Rattle.idmap.specs.declared.Translated.the-variants.{Id, Unmapped}
 use Rattle.idmap.specs.Good.{maxLines, noId}
 use Rattle.idmap.specs.Cover.{coveredOf}
-use Rattle.idmap.specs.Compose.{composedOf}
 use Rattle.idmap.specs.Text.{mapLines, padded}
 use Rattle.idmap.specs.Show.{linesText}
+use Rattle.kernel_map.specs.Compose.{liftedOf}
 use Rattle.records.specs.declared.Kind.{Kind}
 use Rattle.records.specs.declared.Kind.the-variants.{User, Group}
 use Rattle.records.specs.declared.MapState.{MapState}
@@ -21,13 +21,13 @@ use Rattle.records.specs.declared.MapState.the-variants.{Unwritten, Written}
 use Rattle.records.specs.declared.IdMap.{IdMap}
 use Rattle.records.specs.declared.Process.{Process}
 use Rattle.records.specs.declared.Namespace.{Namespace}
-use Rattle.records.specs.Records.{freeMap, idsIn, mapIn, setIdOf, isWritten, linesOf}
-use Rattle.tables.specs.Tables.{State, processAt, namespaceAt, putNamespace, putKernelMap}
+use Rattle.records.specs.Records.{idsIn, mapIn, setIdOf, isWritten, linesOf}
+use Rattle.tables.specs.Tables.{State, processAt, namespaceAt, kernelLines, putNamespace, putKernelMap}
 use Rattle.tables.specs.Find.{processNamed}
 use Rattle.tables.specs.Reply.{Reply, refused, done, bytes, Outcome, refuse, onFound, when, unless}
 use Rattle.mapping.specs.declared.setgroups.Setting.{Setting}
 use Rattle.mapping.specs.declared.setgroups.Setting.the-variants.{Deny, Allow, Neither}
-use Rattle.hierarchy.specs.Walks.{kernelLines, toKernel, fromKernel, capableIn}
+use Rattle.hierarchy.specs.Walks.{toKernel, fromKernel, capableIn}
 
 -- ---- map write
 -- the writer is in namespace n or in its parent
@@ -64,15 +64,6 @@ allCovered above (l ∷ ls) = coveredOf above (l .parent) (l .count) && allCover
 abbrev pub writtenMap : List Line → IdMap
 writtenMap ls = record { state = Written (length ls); lines = padded ls }
 
--- the same map with kernel IDs on the parent side, by the kernel lines of the namespace above; unwritten where a line does not lie whole in one
--- of those
-abbrev pub mapOrNone : Option (List Line) → IdMap
-mapOrNone none = freeMap
-mapOrNone (some ls) = writtenMap ls
-
-unfoldable pub kernelMapOf : List Line → List Line → IdMap
-kernelMapOf above ls = mapOrNone (composedOf above ls)
-
 unfoldable pub withMap : Kind → Namespace → IdMap → Namespace
 withMap User n m = record { live = n .live; parent = n .parent; level = n .level; owner = n .owner; users = m; groups = n .groups; deny = n .deny }
 withMap Group n m = record { live = n .live; parent = n .parent; level = n .level; owner = n .owner; users = n .users; groups = m; deny = n .deny }
@@ -81,10 +72,10 @@ abbrev pub thenLines : {A : Type 0} → Option (List Line) → A → (List Line 
 thenLines none other next = other
 thenLines (some ls) other next = next ls
 
--- what a write stores: the map, and its kernel map
+-- what a write stores: the map, and its kernel lines, by those of the namespace above
 unfoldable pub mappedTables : State → Kind → ℕ → List Line → State
 mappedTables s kind n ls =
-    putKernelMap (putNamespace s n (withMap kind (namespaceAt s n) (writtenMap ls))) kind n (kernelMapOf (kernelLines s kind (namespaceAt s n .parent)) ls)
+    putKernelMap (putNamespace s n (withMap kind (namespaceAt s n) (writtenMap ls))) kind n (liftedOf (kernelLines s kind (namespaceAt s n .parent)) ls)
 
 -- the lines of the text, the writer's right to them, and their cover; then the map is stored
 unfoldable pub writeLinesTo : State → Kind → Process → ℕ → List ℕ → Outcome

@@ -4,17 +4,16 @@ ghost use lib.ListN.{take};
 ghost use Rattle.idmap.specs.Line.{linesIn};
 ghost use Rattle.tables.specs.Tables.{tablesOf, namespaceAt};
 ghost use Rattle.tables.specs.Reply.{Promise};
-ghost use Rattle.mapping.specs.Calls.{isNear, isId, mayByKind, singleLine, mayMap, allCovered, kernelMapOf, withMap, writeLinesTo, writeMapTo, writeMapOf};
+ghost use Rattle.mapping.specs.Calls.{isNear, isId, mayByKind, singleLine, mayMap, allCovered, withMap, writeLinesTo, writeMapTo, writeMapOf};
 use hierarchy::capable::capable;
 use hierarchy::translate::to_kernel;
 use idmap::Line;
 use idmap::MAX_LINES;
 use idmap::Translated;
 use idmap::cover::covered;
-use idmap::lookup::lookup_out;
-use idmap::lookup::reach;
 use idmap::text::Parsed;
 use idmap::text::read_map;
+use kernel_map::compose::compose;
 use records::IdMap;
 use records::Kind;
 use records::MapState;
@@ -24,7 +23,6 @@ use records::kinds::ids_in;
 use records::kinds::is_written;
 use records::kinds::map_in;
 use records::kinds::set_id;
-use records::namespaces::free_map;
 use tables::Tables;
 use tables::answer::Answer;
 use tables::answer::Errno;
@@ -137,45 +135,6 @@ fn all_covered(above: &[u64], lines: [Line; MAX_LINES], count: usize) -> bool
     true
 }
 
-// The same lines with kernel IDs on the parent side, by the kernel lines above. Where one does not lie whole in one of those, no map.
-fn kernel_map(above: &[u64], lines: [Line; MAX_LINES], count: usize) -> IdMap
-    ensures { λ r. ⌜ r ≡ kernelMapOf (linesIn (now (above .entry))) (take count lines) ⌝ }
-{
-    let none = Line {
-        inside: 0,
-        parent: 0,
-        count: 0,
-    };
-    let mut lifted = [none; MAX_LINES];
-    let mut i: usize = 0;
-    while i < MAX_LINES {
-        if count <= i {
-            return IdMap {
-                state: MapState::Written(i),
-                lines: lifted,
-            };
-        }
-        let l = lines[i];
-        if reach(above, l.parent) < l.count {
-            return free_map();
-        }
-        let start = lookup_out(above, l.parent);
-        let Translated::Id(y) = start else {
-            return free_map();
-        };
-        lifted[i] = Line {
-            inside: l.inside,
-            parent: y,
-            count: l.count,
-        };
-        i += 1;
-    }
-    IdMap {
-        state: MapState::Written(MAX_LINES),
-        lines: lifted,
-    }
-}
-
 fn with_map(kind: Kind, n: Namespace, map: IdMap) -> Namespace
     ensures { λ r. ⌜ r ≡ withMap kind n map ⌝ }
 {
@@ -223,9 +182,9 @@ fn write_lines(t: &mut Tables, kind: Kind, w: Process, n: u64, text: &[u8]) -> A
             lines: lines,
         };
         let above = kernel_lines(t, target.parent as usize, kind);
-        let kernel = kernel_map(above, lines, count);
+        let kernel = compose(above, lines, count);
         namespace_put(t, n as usize, with_map(kind, target, map));
-        kernel_map_put(t, kind, n as usize, kernel);
+        kernel_map_put(t, kind, n as usize, &kernel);
         Answer::Done
     } else {
         Answer::Refused(Errno::EPERM)

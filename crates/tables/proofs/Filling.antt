@@ -1,7 +1,7 @@
 -- The initial tables, filled place by place. Assumes nothing.
 use Prim.Native.Nat.{ℕ, _+_, _-_, _≤_, _<_}
 use mathlib.Core.Path.{_≡_, refl, sym, ap, _∙_}
-use mathlib.Core.List.{List, append-nil}
+use mathlib.Core.List.{List, [], _∷_, append-nil}
 use mathlib.Core.Bool.{true, false}
 use native.Mathlib.Nat.{zero-add}
 use native.Mathlib.Numerals.{add-one}
@@ -10,13 +10,17 @@ use lib.ListN.{length, getD, set, replicate, drop-of-length-le}
 use lib.Seq.{paste, paste-zero, paste-suc, take-all}
 use lib.ListN.{getD-replicate}
 use borrow.Author.Needs.{needs}
+use Rattle.prelude.specs.Parts.{part}
+use Rattle.idmap.specs.declared.Line.{Line}
+use Rattle.idmap.specs.Line.{linesIn}
+use Rattle.kernel_map.specs.Compose.{countedLines}
 use Rattle.records.specs.declared.Process.{Process}
 use Rattle.records.specs.declared.Namespace.{Namespace}
 use Rattle.records.specs.declared.IdMap.{IdMap}
 use Rattle.records.specs.declared.Kind.{Kind}
 use Rattle.records.specs.declared.Kind.the-variants.{User, Group}
-use Rattle.records.specs.Records.{freeProcess, freeMap, freeNamespace}
-use Rattle.tables.specs.Tables.{State, tablesOf, kernelMaps, putProcess, putNamespace, putKernelMap, withProcesses, withNamespaces, withKernelMaps, firstProcess, fixedMap, rootNamespace, firstKernelMaps, initialTables}
+use Rattle.records.specs.Records.{freeProcess, freeNamespace}
+use Rattle.tables.specs.Tables.{State, tablesOf, kernelMaps, putProcess, putNamespace, putKernelMap, withProcesses, withNamespaces, withKernelMaps, firstProcess, fixedLine, fixedMap, rootNamespace, firstKernelMaps, initialTables}
 use Rattle.tables.proofs.Tables.{length-processes, length-namespaces, length-kernel-maps}
 
 module _ {A : Type 0} (qs ps : List A) where
@@ -86,10 +90,10 @@ module _ (l : List ℕ) where
 
 -- ---- kernel maps, of a kind
 pub kernelMapsIn : State → Kind → ℕ → State
-kernelMapsIn s k i = withKernelMaps s k (paste (kernelMaps k s) 0 (replicate 64 freeMap) i)
+kernelMapsIn s k i = withKernelMaps s k (paste (kernelMaps k s) 0 (replicate 64 []) i)
 
 -- lists put one after the other: the last one stands
-put-again : (s : State) (k : Kind) (ms : List IdMap) (i : ℕ) (m : IdMap) → putKernelMap (withKernelMaps s k ms) k i m ≡ withKernelMaps s k (set ms i m)
+put-again : (s : State) (k : Kind) (ms : List (List Line)) (i : ℕ) (m : List Line) → putKernelMap (withKernelMaps s k ms) k i m ≡ withKernelMaps s k (set ms i m)
 put-again s User ms i m = refl
 put-again s Group ms i m = refl
 
@@ -100,22 +104,31 @@ put-none s Group = refl
 module _ (l : List ℕ) (k : Kind) where
   pub kernel-maps-none : tablesOf l ≡ kernelMapsIn (tablesOf l) k 0
   unfolding kernelMapsIn
-  kernel-maps-none = put-none (tablesOf l) k ∙ ap (withKernelMaps (tablesOf l) k) (paste-zero (kernelMaps k (tablesOf l)) 0 (replicate 64 freeMap))
+  kernel-maps-none = put-none (tablesOf l) k ∙ ap (withKernelMaps (tablesOf l) k) (paste-zero (kernelMaps k (tablesOf l)) 0 (replicate 64 []))
 
   module _ (l′ : List ℕ) (i : ℕ) (inv : tablesOf l′ ≡ kernelMapsIn (tablesOf l) k i) where
-    pub kernel-maps-more : (free : IdMap) (s : State) → i < 64 → free ≡ freeMap → s ≡ putKernelMap (tablesOf l′) k i free → s ≡ kernelMapsIn (tablesOf l) k (i + 1)
+    pub kernel-maps-more : (free : List Line) (s : State) → i < 64 → free ≡ [] → s ≡ putKernelMap (tablesOf l′) k i free → s ≡ kernelMapsIn (tablesOf l) k (i + 1)
     unfolding kernelMapsIn
     kernel-maps-more free s h q e =
         let j = length-kernel-maps k l in
-        let d : getD (replicate 64 freeMap) i freeMap ≡ freeMap = getD-replicate 64 i freeMap freeMap h in
-        let ms = paste (kernelMaps k (tablesOf l)) 0 (replicate 64 freeMap) i in
-        e ∙ rw (q, inv) (put-again (tablesOf l) k ms i freeMap ∙ ap (λ (m : IdMap). withKernelMaps (tablesOf l) k (set ms i m)) (sym d) ∙ ap (withKernelMaps (tablesOf l) k) (fill-more (kernelMaps k (tablesOf l)) (replicate 64 freeMap) i freeMap (omega arith) h))
+        let d : _≡_ {A = List Line} (getD (replicate 64 []) i []) [] = getD-replicate 64 i [] [] h in
+        let ms = paste (kernelMaps k (tablesOf l)) 0 (replicate 64 []) i in
+        e ∙ rw (q, inv) (put-again (tablesOf l) k ms i [] ∙ ap (λ (m : List Line). withKernelMaps (tablesOf l) k (set ms i m)) (sym d) ∙ ap (withKernelMaps (tablesOf l) k) (fill-more (kernelMaps k (tablesOf l)) (replicate 64 []) i [] (omega arith) h))
 
-    pub kernel-maps-all : (fixed : IdMap) (s : State) → 64 ≤ i → fixed ≡ fixedMap → s ≡ putKernelMap (tablesOf l′) k 0 fixed → s ≡ withKernelMaps (tablesOf l) k firstKernelMaps
+    pub kernel-maps-all : (fixed : List Line) (s : State) → 64 ≤ i → fixed ≡ fixedLine ∷ [] → s ≡ putKernelMap (tablesOf l′) k 0 fixed → s ≡ withKernelMaps (tablesOf l) k firstKernelMaps
     unfolding kernelMapsIn firstKernelMaps
     kernel-maps-all fixed s h q e =
         let j = length-kernel-maps k l in
-        e ∙ rw (q, inv, fill-all (kernelMaps k (tablesOf l)) (replicate 64 freeMap) i (omega arith) h) (put-again (tablesOf l) k (replicate 64 freeMap) 0 fixedMap)
+        e ∙ rw (q, inv, fill-all (kernelMaps k (tablesOf l)) (replicate 64 []) i (omega arith) h) (put-again (tablesOf l) k (replicate 64 []) 0 (fixedLine ∷ []))
+
+-- the rows of words that they are filled with
+pub row-empty : countedLines (replicate 100 0) ≡ []
+unfolding countedLines part linesIn
+row-empty = refl
+
+pub row-fixed : countedLines (set (set (replicate 100 0) 0 1) 3 4294967295) ≡ fixedLine ∷ []
+unfolding countedLines part linesIn
+row-fixed = refl
 
 -- ---- the root, and all
 pub root-made : (m : IdMap) → m ≡ fixedMap → record { live = true; parent = 0; level = 0; owner = 0; users = m; groups = m; deny = false } ≡ rootNamespace
@@ -137,6 +150,8 @@ pub ruleset filling = (
   kernel-maps-none,
   kernel-maps-more,
   kernel-maps-all,
+  row-empty,
+  row-fixed,
   root-made,
   all-filled,
   needs,

@@ -9,13 +9,14 @@ use borrow.Author.Needs.{needs}
 use Rattle.prelude.specs.Parts.{part}
 use Rattle.prelude.proofs.Parts.{length-part}
 use Rattle.idmap.specs.Line.{linesIn}
+use Rattle.kernel_map.specs.Compose.{countedLines}
 use Rattle.rows.proofs.Rows.{row-get, row-none}
 use Rattle.records.proofs.Records.{map-whole}
 use Rattle.records.specs.declared.IdMap.{IdMap}
 use Rattle.records.specs.declared.Kind.{Kind}
 use Rattle.records.specs.declared.Kind.the-variants.{User, Group}
-use Rattle.records.specs.Records.{mapOf, mapFrom, freeMap, namespaceOf, freeNamespace, mapIn, linesOf}
-use Rattle.tables.specs.Tables.{tablesOf, namespaceAt, kernelMapAt}
+use Rattle.records.specs.Records.{mapOf, mapFrom, namespaceOf, freeNamespace, mapIn, linesOf}
+use Rattle.tables.specs.Tables.{tablesOf, namespaceAt, kernelLines}
 
 -- ---- map_lines
 -- a part of a part
@@ -43,7 +44,7 @@ module _ (l : List ℕ) (place : ℕ) where
   map-at : (a : ℕ) → a + 17 ≤ 39 → take 17 (drop a (part 39 (3456 + place * 39) l)) ≡ part 17 (3456 + place * 39 + a) l
   map-at a h = part-part 17 a 39 (3456 + place * 39) l h
 
-  module _ (long : length l ≡ 8128) (h : place < 64) (w : List ℕ) where
+  module _ (long : length l ≡ 18752) (h : place < 64) (w : List ℕ) where
     module _ (k : Kind) (r : List ℕ) (read : linesIn r ≡ linesOf (mapFrom w)) where
       pub lines-users : w ≡ part 17 (3460 + place * 39) l → k ≡ User → linesIn r ≡ linesOf (mapIn k (namespaceAt (tablesOf l) place))
       unfolding tablesOf namespaceAt
@@ -63,23 +64,19 @@ module _ (l : List ℕ) (place : ℕ) where
 
 -- ---- kernel_lines
 module _ (l : List ℕ) (place : ℕ) where
-  pub kernel-past : (k : Kind) (r : List ℕ) → 64 ≤ place → r ≡ part 0 0 l → linesIn r ≡ linesOf (kernelMapAt (tablesOf l) k place)
-  unfolding part linesIn tablesOf kernelMapAt
-  kernel-past User r h q = ap linesIn q ∙ sym (rw (row-none mapOf 17 64 5952 l place freeMap h))
-  kernel-past Group r h q = ap linesIn q ∙ sym (rw (row-none mapOf 17 64 7040 l place freeMap h))
+  pub kernel-past : (k : Kind) (r : List ℕ) → 64 ≤ place → r ≡ part 0 0 l → linesIn r ≡ kernelLines (tablesOf l) k place
+  unfolding part linesIn tablesOf kernelLines
+  kernel-past User r h q = ap linesIn q ∙ sym (row-none countedLines 100 64 5952 l place [] h)
+  kernel-past Group r h q = ap linesIn q ∙ sym (row-none countedLines 100 64 12352 l place [] h)
 
-  module _ (long : length l ≡ 8128) (h : place < 64) (w : List ℕ) (k : Kind) (r : List ℕ) (read : linesIn r ≡ linesOf (mapFrom w)) where
-    pub kernel-users : w ≡ part 17 (5952 + place * 17) l → k ≡ User → linesIn r ≡ linesOf (kernelMapAt (tablesOf l) k place)
-    unfolding tablesOf kernelMapAt
-    kernel-users e q =
-        let whole = map-whole w (rw e (length-part 17 (5952 + place * 17) l (omega arith))) in
-        read ∙ ap (λ (m : IdMap). linesOf m) whole ∙ rw (q, row-get mapOf 17 64 5952 l place freeMap (5952 + place * 17) refl h) (ap (λ (v : List ℕ). linesOf (mapOf v)) e)
+  module _ (h : place < 64) (w : List ℕ) (k : Kind) (r : List ℕ) (read : linesIn r ≡ countedLines w) where
+    pub kernel-users : w ≡ part 100 (5952 + place * 100) l → k ≡ User → linesIn r ≡ kernelLines (tablesOf l) k place
+    unfolding tablesOf kernelLines
+    kernel-users e q = read ∙ ap countedLines e ∙ rw q (sym (row-get countedLines 100 64 5952 l place [] (5952 + place * 100) refl h))
 
-    pub kernel-groups : w ≡ part 17 (7040 + place * 17) l → k ≡ Group → linesIn r ≡ linesOf (kernelMapAt (tablesOf l) k place)
-    unfolding tablesOf kernelMapAt
-    kernel-groups e q =
-        let whole = map-whole w (rw e (length-part 17 (7040 + place * 17) l (omega arith))) in
-        read ∙ ap (λ (m : IdMap). linesOf m) whole ∙ rw (q, row-get mapOf 17 64 7040 l place freeMap (7040 + place * 17) refl h) (ap (λ (v : List ℕ). linesOf (mapOf v)) e)
+    pub kernel-groups : w ≡ part 100 (12352 + place * 100) l → k ≡ Group → linesIn r ≡ kernelLines (tablesOf l) k place
+    unfolding tablesOf kernelLines
+    kernel-groups e q = read ∙ ap countedLines e ∙ rw q (sym (row-get countedLines 100 64 12352 l place [] (12352 + place * 100) refl h))
 
 pub ruleset lines = (lines-past, lines-users, lines-groups, needs)
 

@@ -1,15 +1,16 @@
 -- Reads after stores: a store changes what its own place reads as, and no other. Assumes nothing.
 use Prim.Native.Nat.{ℕ, _<_}
 use mathlib.Core.Path.{_≡_, refl}
+use mathlib.Core.List.{List, []}
 use lib.ListN.{length}
 use lib.Seq.{getD-set-same, getD-set-other}
+use Rattle.idmap.specs.declared.Line.{Line}
 use Rattle.records.specs.declared.Process.{Process}
 use Rattle.records.specs.declared.Namespace.{Namespace}
-use Rattle.records.specs.declared.IdMap.{IdMap}
 use Rattle.records.specs.declared.Kind.{Kind}
 use Rattle.records.specs.declared.Kind.the-variants.{User, Group}
-use Rattle.records.specs.Records.{freeProcess, freeMap, freeNamespace}
-use Rattle.tables.specs.Tables.{State, processAt, namespaceAt, kernelMaps, kernelMapAt, putProcess, putNamespace, putKernelMap}
+use Rattle.records.specs.Records.{freeProcess, freeNamespace}
+use Rattle.tables.specs.Tables.{State, processAt, namespaceAt, kernelMaps, kernelLines, putProcess, putNamespace, putKernelMap}
 
 module _ (s : State) (i : ℕ) (p : Process) where
   pub process-stored : i < length (s .processes) → processAt (putProcess s i p) i ≡ p
@@ -38,13 +39,13 @@ module _ (s : State) (i : ℕ) (n : Namespace) where
   unfolding processAt
   namespace-apart j = refl
 
-module _ (s : State) (i : ℕ) (m : IdMap) where
-  pub kernel-map-stored : (k : Kind) → i < length (kernelMaps k s) → kernelMapAt (putKernelMap s k i m) k i ≡ m
-  unfolding kernelMapAt
-  kernel-map-stored User h = getD-set-same (s .kernelUsers) i m freeMap h
-  kernel-map-stored Group h = getD-set-same (s .kernelGroups) i m freeMap h
+module _ (s : State) (i : ℕ) (m : List Line) where
+  pub kernel-map-stored : (k : Kind) → i < length (kernelMaps k s) → kernelLines (putKernelMap s k i m) k i ≡ m
+  unfolding kernelLines
+  kernel-map-stored User h = getD-set-same (s .kernelUsers) i m [] h
+  kernel-map-stored Group h = getD-set-same (s .kernelGroups) i m [] h
 
-  pub kernel-map-kept : (k : Kind) (j : ℕ) → (j ≡ i → ⊥) → kernelMapAt (putKernelMap s k i m) k j ≡ kernelMapAt s k j
-  unfolding kernelMapAt
-  kernel-map-kept User j h = getD-set-other (s .kernelUsers) i j m freeMap h
-  kernel-map-kept Group j h = getD-set-other (s .kernelGroups) i j m freeMap h
+  pub kernel-map-kept : (k : Kind) (j : ℕ) → (j ≡ i → ⊥) → kernelLines (putKernelMap s k i m) k j ≡ kernelLines s k j
+  unfolding kernelLines
+  kernel-map-kept User j h = getD-set-other (s .kernelUsers) i j m [] h
+  kernel-map-kept Group j h = getD-set-other (s .kernelGroups) i j m [] h

@@ -1,12 +1,14 @@
 -- The tables as a caller thinks of them: document 01, 'What stands in the tables'. Assumes nothing.
 use Prim.Native.Nat.{ℕ}
-use mathlib.Core.List.{List, _∷_}
+use mathlib.Core.List.{List, [], _∷_}
 use mathlib.Core.Bool.{true, false}
 use lib.ListN.{getD, set, replicate}
 use Rattle.capability.specs.Sets.{fullSet}
+use Rattle.idmap.specs.declared.Line.{Line}
 use Rattle.idmap.specs.Line.{noLine}
 use Rattle.idmap.specs.Good.{noId}
 use Rattle.rows.specs.Rows.{rows}
+use Rattle.kernel_map.specs.Compose.{countedLines}
 use Rattle.records.specs.declared.Kind.{Kind}
 use Rattle.records.specs.declared.Kind.the-variants.{User, Group}
 use Rattle.records.specs.declared.Ids.{Ids}
@@ -14,23 +16,23 @@ use Rattle.records.specs.declared.Process.{Process}
 use Rattle.records.specs.declared.MapState.the-variants.{Written}
 use Rattle.records.specs.declared.IdMap.{IdMap}
 use Rattle.records.specs.declared.Namespace.{Namespace}
-use Rattle.records.specs.Records.{processOf, freeProcess, mapOf, freeMap, namespaceOf, freeNamespace}
+use Rattle.records.specs.Records.{processOf, freeProcess, namespaceOf, freeNamespace}
 
 pub record State : Type 0 where
   pub processes : List Process
   pub namespaces : List Namespace
-  -- the maps of each namespace once more, with kernel IDs on the parent side, so that one search translates through all levels. Where a line
-  -- does not lie whole in one line of the parent's, it is unwritten
-  pub kernelUsers : List IdMap
-  pub kernelGroups : List IdMap
+  -- the lines of the maps of each namespace once more, with kernel IDs on the parent side, so that one search translates through all levels; none
+  -- where they would be too many
+  pub kernelUsers : List (List Line)
+  pub kernelGroups : List (List Line)
 
 -- the tables that the words of the lent array hold: 128 places for processes, 64 for namespaces
 unfoldable pub tablesOf : List ℕ → State
 tablesOf l = record {
   processes = rows processOf 27 128 0 l;
   namespaces = rows namespaceOf 39 64 3456 l;
-  kernelUsers = rows mapOf 17 64 5952 l;
-  kernelGroups = rows mapOf 17 64 7040 l;
+  kernelUsers = rows countedLines 100 64 5952 l;
+  kernelGroups = rows countedLines 100 64 12352 l;
 }
 
 -- what stands in a place. A place past the end is free
@@ -44,11 +46,12 @@ abbrev pub byKind : {A : Type 0} → Kind → A → A → A
 byKind User users groups = users
 byKind Group users groups = groups
 
-abbrev pub kernelMaps : Kind → State → List IdMap
+abbrev pub kernelMaps : Kind → State → List (List Line)
 kernelMaps k s = byKind k (s .kernelUsers) (s .kernelGroups)
 
-unfoldable pub kernelMapAt : State → Kind → ℕ → IdMap
-kernelMapAt s k i = getD (kernelMaps k s) i freeMap
+-- the kernel lines of a namespace. A place past the end has none
+unfoldable pub kernelLines : State → Kind → ℕ → List Line
+kernelLines s k i = getD (kernelMaps k s) i []
 
 -- the same tables with another list in one place
 abbrev pub withProcesses : State → List Process → State
@@ -57,7 +60,7 @@ withProcesses s ps = record { processes = ps; namespaces = s .namespaces; kernel
 abbrev pub withNamespaces : State → List Namespace → State
 withNamespaces s ns = record { processes = s .processes; namespaces = ns; kernelUsers = s .kernelUsers; kernelGroups = s .kernelGroups }
 
-abbrev pub withKernelMaps : State → Kind → List IdMap → State
+abbrev pub withKernelMaps : State → Kind → List (List Line) → State
 withKernelMaps s k ms = record {
   processes = s .processes;
   namespaces = s .namespaces;
@@ -71,8 +74,8 @@ putProcess s i p = withProcesses s (set (s .processes) i p)
 abbrev pub putNamespace : State → ℕ → Namespace → State
 putNamespace s i n = withNamespaces s (set (s .namespaces) i n)
 
-abbrev pub putKernelMap : State → Kind → ℕ → IdMap → State
-putKernelMap s k i m = withKernelMaps s k (set (kernelMaps k s) i m)
+abbrev pub putKernelMap : State → Kind → ℕ → List Line → State
+putKernelMap s k i ls = withKernelMaps s k (set (kernelMaps k s) i ls)
 
 -- ---- document 01: the fresh start
 abbrev pub allZero : Ids
@@ -91,15 +94,18 @@ firstProcess = record {
 }
 
 -- namespace 0 has the fixed line 0 0 4294967295 in both maps
+abbrev pub fixedLine : Line
+fixedLine = record { inside = 0; parent = 0; count = noId }
+
 abbrev pub fixedMap : IdMap
-fixedMap = record { state = Written 1; lines = record { inside = 0; parent = 0; count = noId } ∷ replicate 4 noLine }
+fixedMap = record { state = Written 1; lines = fixedLine ∷ replicate 4 noLine }
 
 abbrev pub rootNamespace : Namespace
 rootNamespace = record { live = true; parent = 0; level = 0; owner = 0; users = fixedMap; groups = fixedMap; deny = false }
 
 -- it stands for itself in kernel IDs
-unfoldable pub firstKernelMaps : List IdMap
-firstKernelMaps = set (replicate 64 freeMap) 0 fixedMap
+unfoldable pub firstKernelMaps : List (List Line)
+firstKernelMaps = set (replicate 64 []) 0 (fixedLine ∷ [])
 
 unfoldable pub initialTables : State
 initialTables = record {

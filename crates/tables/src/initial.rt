@@ -1,12 +1,15 @@
 // The tables as they are at the start.
 ghost use mathlib.Core.Path.{_≡_};
-ghost use Rattle.tables.specs.Tables.{tablesOf, firstProcess, fixedMap, rootNamespace, firstKernelMaps, initialTables, withProcesses, withNamespaces, withKernelMaps};
+ghost use mathlib.Core.List.{[], _∷_};
+ghost use Rattle.kernel_map.specs.Compose.{countedLines};
+ghost use Rattle.tables.specs.Tables.{tablesOf, firstProcess, fixedLine, fixedMap, rootNamespace, firstKernelMaps, initialTables, withProcesses, withNamespaces, withKernelMaps};
 use crate::Tables;
 use crate::kernel_maps::kernel_map_put;
 use crate::namespaces::namespace_put;
 use crate::processes::process_put;
 use capability::CapabilitySet;
 use idmap::Line;
+use kernel_map::KernelMap;
 use records::GroupList;
 use records::IdMap;
 use records::Ids;
@@ -14,7 +17,6 @@ use records::Kind;
 use records::MapState;
 use records::Namespace;
 use records::Process;
-use records::namespaces::free_map;
 use records::namespaces::free_namespace;
 use records::processes::free_process;
 
@@ -98,15 +100,25 @@ fn fill_namespaces(t: &mut Tables)
     namespace_put(t, 0, root_namespace());
 }
 
+fn fixed_kernel_map() -> KernelMap
+    ensures { λ r. ⌜ countedLines r ≡ fixedLine ∷ [] ⌝ }
+{
+    let mut map: KernelMap = [0; 100];
+    map[0] = 1;
+    map[3] = 4294967295;
+    map
+}
+
 // No kernel map of a kind but the initial namespace's.
 fn fill_kernel_maps(t: &mut Tables, kind: Kind)
     ensures { λ r. ⌜ tablesOf (now (t .exit)) ≡ withKernelMaps (tablesOf (now (t .entry))) kind firstKernelMaps ⌝ }
 {
-    let free = free_map();
+    let none: KernelMap = [0; 100];
     for i in 0..64usize {
-        kernel_map_put(t, kind, i, free);
+        kernel_map_put(t, kind, i, &none);
     }
-    kernel_map_put(t, kind, 0, fixed_map());
+    let fixed = fixed_kernel_map();
+    kernel_map_put(t, kind, 0, &fixed);
 }
 
 // The initial tables, whatever stood in the array.

@@ -7,5 +7,5 @@ pub mod kernel_maps;
 pub mod namespaces;
 pub mod processes;
 
-// 128 rows of 27 words for processes, 64 rows of 39 words for namespaces, then 64 rows of 17 words for kernel maps of users and as many for groups.
-pub type Tables = [u64; 8128];
+// 128 rows of 27 words for processes, 64 rows of 39 words for namespaces, then 64 rows of 100 words for kernel maps of users and as many for groups.
+pub type Tables = [u64; 18752];

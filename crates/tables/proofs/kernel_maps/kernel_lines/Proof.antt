@@ -12,11 +12,11 @@ kernel-lines-spec =
     (λ c. search kernel-lines)  -- mul-get
     (λ c. search kernel-lines)  -- add-get
     (λ c κs. search kernel-lines)  -- get-requires-2
-    (λ c κs. search kernel-lines)  -- lines-of-requires
+    (λ c κs. search kernel-lines)  -- lines-in-requires
     (λ c. search kernel-lines)  -- enum-told-2
     (λ c. search kernel-lines)  -- mul-get-2
     (λ c. search kernel-lines)  -- add-get-2
     (λ c κs. search kernel-lines)  -- get-requires-3
-    (λ c κs. search kernel-lines)  -- lines-of-requires-2
+    (λ c κs. search kernel-lines)  -- lines-in-requires-2
     (λ c. search kernel-lines)  -- returns-2
     (λ c. search kernel-lines))  -- returns-3

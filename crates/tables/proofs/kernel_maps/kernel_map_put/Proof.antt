@@ -7,16 +7,13 @@ pub kernel-map-put-spec : {M : Type 1} → statement M
 kernel-map-put-spec =
     tie.close (tie.spec
     (λ c. search stores)  -- returns
-    (λ c κs. search stores)  -- map-words-requires
     (λ c. search stores)  -- enum-told
     (λ c. search stores)  -- mul-put
     (λ c. search stores)  -- add-put
-    (λ c. search stores)  -- slice-aggregate-put
     (λ c κs. search stores)  -- put-requires
     (λ c. search stores)  -- enum-told-2
     (λ c. search stores)  -- mul-put-2
     (λ c. search stores)  -- add-put-2
-    (λ c. search stores)  -- slice-aggregate-put-2
     (λ c κs. search stores)  -- put-requires-2
     (λ c. search stores)  -- returns-2
     (λ c. search stores))  -- returns-3
