@@ -8,7 +8,7 @@ use reference::{Answer, Call, Direction};
 
 use crate::kernel;
 use crate::measure::time;
-use crate::state::{self, State, FIVE_ACROSS, FIVE_BELOW, FIVE_LINES, ONE_LINE};
+use crate::state::{self, Maps, State, FIVE_BELOW, FIVE_LINES, ONE_LINE};
 use crate::table::{Kernel, Row};
 
 /// Goals in nanoseconds: of a call, of a read or write of a map, and of a translation through at most eight levels.
@@ -74,14 +74,16 @@ pub fn rows() -> Vec<Row> {
     rows.extend(credentials());
     rows.extend(questions());
     let (last, any) = (Ids::LastLine, Ids::AnyLine);
-    rows.extend(translations(1, "1 level of 5 lines", FIVE_BELOW, last, TRANSLATION));
-    rows.extend(translations(8, "8 levels of 5 lines", FIVE_BELOW, last, TRANSLATION));
-    let words = "8 levels of 5 lines, IDs of any line";
-    rows.extend(translations(8, words, FIVE_BELOW, any, TRANSLATION));
-    rows.extend(translations(32, "32 levels of 5 lines", FIVE_BELOW, last, CALL));
-    // Here there are no kernel maps.
-    rows.extend(translations(8, "8 levels of 5 lines across", FIVE_ACROSS, last, TRANSLATION));
-    rows.extend(translations(32, "32 levels of 5 lines across", FIVE_ACROSS, last, CALL));
+    let whole = Maps::Whole;
+    rows.extend(translations(1, "1 level of 5 lines", whole, last, TRANSLATION));
+    rows.extend(translations(8, "8 levels of 5 lines", whole, last, TRANSLATION));
+    rows.extend(translations(8, "8 levels of 5 lines, IDs of any line", whole, any, TRANSLATION));
+    rows.extend(translations(32, "32 levels of 5 lines", whole, last, CALL));
+    rows.extend(translations(8, "8 levels of 5 lines across", Maps::Across, last, TRANSLATION));
+    rows.extend(translations(32, "32 levels of 5 lines across", Maps::Across, last, CALL));
+    let each = Maps::EachAcross;
+    rows.extend(translations(8, "8 levels of 5 lines, each across", each, last, TRANSLATION));
+    rows.extend(translations(32, "32 levels of 5 lines, each across", each, last, CALL));
     rows
 }
 
@@ -277,6 +279,18 @@ fn questions() -> Vec<Row> {
         own_ids("getids, no groups", &common, 1, one_call),
         own_ids("getids, 4 groups", &common, ROOT, three_calls),
         own_ids("getids, 16 groups, 8 levels of 5 lines", &State::deep(8), 9, Kernel::None),
+        own_ids(
+            "getids, 16 groups, 8 levels of 5 lines across",
+            &State::nested(8, Maps::Across),
+            9,
+            Kernel::None,
+        ),
+        own_ids(
+            "getids, 16 groups, 8 levels of 5 lines, each across",
+            &State::nested(8, Maps::EachAcross),
+            9,
+            Kernel::None,
+        ),
         capable("capable, 1 level up", &common, NAMESPACE),
         capable("capable, 32 levels up", &State::deep(32), 32),
     ]
@@ -299,11 +313,11 @@ fn offsets(ids: Ids) -> Vec<u32> {
     (0..REPEATED).map(offset).collect()
 }
 
-/// Translations at a depth, which the words name, with these maps from level 2 on.
-fn translations(levels: u64, words: &str, below: &str, ids: Ids, goal: f64) -> Vec<Row> {
+/// Translations at a depth, which the words name, with such maps from level 2 on.
+fn translations(levels: u64, words: &str, maps: Maps, ids: Ids, goal: f64) -> Vec<Row> {
     let inside = offsets(ids);
     let kernel: Vec<u32> = inside.iter().map(|id| state::kernel_id(*id)).collect();
-    let state = State::nested(levels, below);
+    let state = State::nested(levels, maps);
     let row_of = |name: &str, way: Way, direction: Direction, ids: &[u32]| {
         let kind = reference::Kind::User;
         let call =

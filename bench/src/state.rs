@@ -17,13 +17,39 @@ pub const FIVE_LINES: &str =
 /// A map of five lines below another one.
 pub const FIVE_BELOW: &str =
     "0 0 1000\n1000 1000 1000\n2000 2000 1000\n3000 3000 1000\n4000 4000 1000\n";
-/// A map of five lines below the first of those, four of which run across two of its lines.
-pub const FIVE_ACROSS: &str =
-    "0 0 900\n900 900 1000\n1900 1900 1000\n2900 2900 1000\n3900 3900 1100\n";
 /// The IDs from 0 on that the maps of five lines have.
 pub const MAPPED_IDS: u32 = 5000;
 /// An ID in the last of five lines.
 pub const LAST_LINE_ID: u32 = 4500;
+
+/// The maps of five lines from level 2 on.
+#[derive(Clone, Copy)]
+pub enum Maps {
+    /// Each line lies whole in one line of the map above.
+    Whole,
+    /// At level 2, each of the first four lines runs across two lines of the map above.
+    Across,
+    /// At each level, each of the first four lines runs across two lines of the map above.
+    EachAcross,
+}
+
+impl Maps {
+    fn text(self, level: u64) -> String {
+        match self {
+            Maps::Whole => FIVE_BELOW.to_string(),
+            Maps::Across => five_lines(15),
+            Maps::EachAcross => five_lines(15 * (level - 1)),
+        }
+    }
+}
+
+/// A map of five lines on the same IDs as `FIVE_BELOW`, each but the first starting so much later.
+fn five_lines(later: u64) -> String {
+    let start = |line: u64| if line == 0 { 0 } else { line * 1000 + later };
+    let end = |line: u64| if line == 4 { 5000 } else { start(line + 1) };
+    let line = |line| format!("{0} {0} {1}\n", start(line), end(line) - start(line));
+    (0..5).map(line).collect()
+}
 
 /// The same tables in both implementations.
 #[derive(Clone)]
@@ -94,14 +120,15 @@ impl State {
     /// Namespaces one below the other with maps of five lines; the process at each level has the number one above it. The
     /// deepest one's has sixteen supplementary groups.
     pub fn deep(levels: u64) -> State {
-        State::nested(levels, FIVE_BELOW)
+        State::nested(levels, Maps::Whole)
     }
 
-    /// The same with these maps from level 2 on.
-    pub fn nested(levels: u64, below: &str) -> State {
+    /// The same with such maps from level 2 on.
+    pub fn nested(levels: u64, maps: Maps) -> State {
         let mut state = State::initial();
         for level in 1..=levels {
-            state.child_with_maps(level, if level == 1 { FIVE_LINES } else { below });
+            let text = if level == 1 { FIVE_LINES.to_string() } else { maps.text(level) };
+            state.child_with_maps(level, &text);
         }
         state.make(Call::Setgroups { caller: levels + 1, groups: sixteen_groups() });
         state
