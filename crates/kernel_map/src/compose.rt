@@ -46,11 +46,7 @@ fn add(row: &mut KernelMap, n: usize, piece: Line) -> usize
     if 33 < n {
         return n;
     }
-    let words = [
-        piece.inside as u64,
-        piece.parent as u64,
-        piece.count as u64,
-    ];
+    let words = [piece.inside as u64, piece.parent as u64, piece.count as u64];
     rows::put(row, 1 + n * 3, &words);
     n + 1
 }
