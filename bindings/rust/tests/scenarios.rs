@@ -145,8 +145,7 @@ fn nested(tables: &mut Tables, caller: u64, users: &str, groups: &str) -> u64 {
     child
 }
 
-/// The second of the user lines at level 2 runs across both lines of level 1, so that users are translated level by level
-/// from there on; each line of the groups lies whole in one.
+/// The second of the user lines at level 2 runs across both lines of level 1; each line of the groups lies whole in one.
 #[test]
 fn translation_goes_through_levels() {
     let mut tables = Tables::new();
@@ -186,6 +185,34 @@ fn translation_goes_through_levels() {
     ];
     for (kind, namespace, id) in kernel {
         assert_eq!(back(kind, namespace, id), Ok(None));
+    }
+}
+
+/// At each level four of five lines run across two lines of the map above, so that a map is cut into four pieces more than the
+/// one above it: into more than a kernel map has room for from level 9 on, where translation goes level by level.
+#[test]
+fn translation_goes_through_lines_across() {
+    let mut tables = Tables::new();
+    let mut caller = 1;
+    for level in 1..=32 {
+        let start = |line| if line == 0 { 0 } else { line * 1000 + (level - 1) * 15 };
+        let end = |line| if line == 4 { 5000 } else { start(line + 1) };
+        let parent = |line| if level == 1 { 100_000 + line * 2000 } else { start(line) };
+        let text: String = (0..5)
+            .map(|line| format!("{} {} {}\n", start(line), parent(line), end(line) - start(line)))
+            .collect();
+        caller = nested(&mut tables, caller, &text, &text);
+        let namespace = u64::from(level);
+        for id in (0..5000).step_by(7) {
+            let kernel = 100_000 + id / 1000 * 2000 + id % 1000;
+            for kind in [Kind::User, Kind::Group] {
+                assert_eq!(tables.translate(kind, Way::Out, 1, namespace, id), Ok(Some(kernel)));
+                assert_eq!(tables.translate(kind, Way::Back, 1, namespace, kernel), Ok(Some(id)));
+            }
+        }
+        for (way, id) in [(Way::Out, 5000), (Way::Back, 101_000), (Way::Back, 109_000)] {
+            assert_eq!(tables.translate(Kind::User, way, 1, namespace, id), Ok(None));
+        }
     }
 }
 

@@ -20,7 +20,7 @@ use Rattle.records.specs.declared.IdMap.{IdMap}
 use Rattle.records.specs.Records.{mapIn}
 use Rattle.records.specs.Records.{linesOf as mapLinesOf}
 use Rattle.tables.specs.Tables.{State, namespaceAt}
-use Rattle.hierarchy.specs.Walks.{heightOf, itself, outIn, atOnce, toKernel, backIn, fromKernel}
+use Rattle.hierarchy.specs.Walks.{heightOf, itself, outIn, atOnce, toKernelBy, toKernel, backIn, fromKernelBy, fromKernel}
 use Rattle.prelude.proofs.Tests.{by-test}
 use Rattle.claims.specs.Events.{Event, other, forked, cloned, unshared, joined, mapped, changed, grouped}
 use Rattle.claims.specs.Words.{isNamespace, placeOf, parentOf, levelOf, mapOf, kernelOf, fixedLine, orNone, linesOf, standsFor}
@@ -127,7 +127,7 @@ module _ (s : State) (h : List Event) (a : Agreed s h) (d : SoundAt h) (o : Once
     once-or-levels (l ∷ ls) u v w e p q = p (λ r. empty l ls (sym e ∙ r))
 
     pub stands-agrees : (x : ℕ) → toKernel s k n x ≡ standsFor k h n x
-    unfolding toKernel
+    unfolding toKernel toKernelBy
     stands-agrees x =
         by-test (eqb n 0)
         (λ t. rw t (sym (by-root _ _ _ o (linesOf k h) (levelOf h n) n x (eqb-true n 0 t))))
@@ -141,7 +141,7 @@ module _ (s : State) (h : List Event) (a : Agreed s h) (d : SoundAt h) (o : Once
     back-root (suc f) y z = rw (eq-eqb n 0 z)
 
     pub returns-agrees : (y : ℕ) → y < 2 ^ 32 → fromKernel s k n y ≡ backBy (parentOf h) (linesOf k h) (levelOf h n) n y
-    unfolding fromKernel
+    unfolding fromKernel fromKernelBy
     returns-agrees y small =
         by-test (eqb n 0)
         (λ t. rw t (sym (back-root (levelOf h n) y (eqb-true n 0 t))))

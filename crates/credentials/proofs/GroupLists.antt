@@ -9,7 +9,6 @@ use lib.ListN.{length, take, drop, getD, set, replicate}
 use borrow.Author.Needs.{needs}
 use borrow.Author.Tests.{lt-ltb, le-ltb}
 use Rattle.idmap.specs.Line.{linesIn}
-use Rattle.idmap.specs.Lookup.{out}
 use Rattle.idmap.specs.declared.Translated.{Translated}
 use Rattle.idmap.specs.declared.Translated.the-variants.{Id, Unmapped}
 use Rattle.idmap.proofs.Collecting.{allFrom, all-starts, all-ends, all-none, all-next, made-so-far}
@@ -27,8 +26,8 @@ use Rattle.tables.specs.declared.find.Found.the-variants.{At, Nothing}
 use Rattle.tables.specs.declared.answer.Errno.the-variants.{EPERM, ESRCH, EINVAL}
 use Rattle.tables.specs.declared.answer.Answer.the-variants.{Refused, Done}
 use Rattle.tables.proofs.Promises.{refuses, answers}
-use Rattle.hierarchy.specs.Walks.{toKernel, capableIn}
-use Rattle.hierarchy.proofs.Translations.{to-once}
+use Rattle.hierarchy.specs.Walks.{toKernelBy, toKernel, capableIn}
+use Rattle.hierarchy.proofs.Translations.{to-own}
 use Rattle.credentials.specs.declared.groups.Listed.{Listed}
 use Rattle.credentials.specs.Calls.{toOption, groupList, withList, thenList, kernelGroups, listedOf, setGroupsOf}
 
@@ -45,10 +44,7 @@ module _ (ids : List ℕ) (i : ℕ) (long : length ids ≡ 16) (room : i ≤ 16)
 pub rest-empty : (ids : List ℕ) (i x : ℕ) → i < 16 → drop i ids ≡ replicate (16 - i) 0 → drop (i + 1) (set ids i x) ≡ replicate (16 - (i + 1)) 0
 rest-empty ids i x h rest = collected-rest ids i 16 0 rest x h
 
--- ---- kernel_group
-pub group-once : (s : State) (n x : ℕ) (r : Translated) (ws : List ℕ) → 0 < n → 3 ≤ length ws → linesIn ws ≡ kernelLines s Group n → r ≡ out (linesIn ws) x → r ≡ toKernel s Group n x
-group-once s n x r ws h k read e = to-once s Group n x r (λ z. omega arith) ws read k e
-
+-- ---- kernel_groups
 -- the kernel IDs of a list, of which the first i are in ids
 pub kernelFrom : State → ℕ → List ℕ → List ℕ → ℕ → Option (List ℕ)
 kernelFrom s n list ids i = allFrom (λ (x : ℕ). toOption (toKernel s Group n x)) list ids i
@@ -66,7 +62,10 @@ module _ (s : State) (n : ℕ) (list ids : List ℕ) where
         let so-far : _≡_ {A = GroupList} (record { count = i; ids = ids }) (groupList (take i ids)) = groups-so-far ids i long (omega arith) rest in
         rw (all-ends _ list ids i inv h, so-far)
 
-    module _ (h : i < length list) (r : Translated) (found : r ≡ toKernel s Group n (getD list i 0)) where
+    module _ (h : i < length list) (r : Translated) (ws : List ℕ) (read : linesIn ws ≡ kernelLines s Group n) (by-lines : r ≡ toKernelBy s Group (linesIn ws) n (getD list i 0)) where
+      found : r ≡ toKernel s Group n (getD list i 0)
+      found = to-own s Group ws n (getD list i 0) r read by-lines
+
       pub kernel-unmapped : (a : Listed) → r ≡ Unmapped → a ≡ listedOf none → a ≡ listedOf (kernelGroups s n list)
       unfolding kernelFrom kernelGroups
       kernel-unmapped a e q = q ∙ sym (ap listedOf (all-none _ list ids i inv 0 h (ap toOption (sym found ∙ e))))
@@ -148,7 +147,6 @@ module _ (l : List ℕ) (c : ℕ) (list : List ℕ) (r : Found) (named : r ≡ p
                 (rw (put, made) (after-some (tablesOf l) i p listed (kernelGroups (tablesOf l) (p .namespace) list) got t ∙ sym groups-listed))
 
 pub ruleset grouping = (
-  group-once,
   rest-empty,
   kernel-starts,
   kernel-ends,

@@ -22,8 +22,7 @@ use Rattle.tables.specs.declared.find.Found.{Found}
 use Rattle.tables.specs.declared.find.Found.the-variants.{At, Nothing}
 use Rattle.tables.specs.declared.answer.Errno.the-variants.{ESRCH}
 use Rattle.tables.specs.declared.answer.Answer.the-variants.{Refused, Own}
-use Rattle.hierarchy.specs.Walks.{heightOf, itself, backIn, fromKernel}
-use Rattle.hierarchy.proofs.Translations.{from-root, from-once, from-levels}
+use Rattle.hierarchy.specs.Walks.{fromKernelBy, fromKernel}
 use Rattle.credentials.specs.declared.own.OwnIds.{OwnIds}
 use Rattle.credentials.specs.Calls.{shownAs, seen, seenIds, noIds, groupList, seenGroups, ownIdsOf}
 use Rattle.credentials.proofs.GroupLists.{groups-so-far, rest-empty}
@@ -35,19 +34,12 @@ shown-id r x e = rw e
 pub shown-none : (r : Translated) → r ≡ Unmapped → 65534 ≡ shownAs r
 shown-none r e = rw e
 
-module _ (s : State) (kind : Kind) (n x : ℕ) (r : Translated) (v : ℕ) (shown : v ≡ shownAs r) where
-  seen-by : r ≡ fromKernel s kind n x → v ≡ seen s kind n x
-  seen-by found = shown ∙ rw found
+pub shown-by : (r f : Translated) (v : ℕ) → v ≡ shownAs r → r ≡ f → v ≡ shownAs f
+shown-by r f v e q = e ∙ ap shownAs q
 
-  pub seen-root : n ≡ 0 → r ≡ itself x → v ≡ seen s kind n x
-  seen-root z found = seen-by (from-root s kind n x r z found)
-
-  module _ (below : n ≡ 0 → ⊥) (ws : List ℕ) (read : linesIn ws ≡ kernelLines s kind n) where
-    pub seen-once : 3 ≤ length ws → r ≡ back (linesIn ws) x → v ≡ seen s kind n x
-    seen-once k found = seen-by (from-once s kind n x r below ws read k found)
-
-    pub seen-levels : length ws < 3 → r ≡ backIn s kind (heightOf s n) n x → v ≡ seen s kind n x
-    seen-levels k found = seen-by (from-levels s kind n x r below ws read k found)
+pub seen-is : (s : State) (kind : Kind) (ws : List ℕ) (n x v : ℕ) → linesIn ws ≡ kernelLines s kind n → v ≡ shownAs (fromKernelBy s kind (linesIn ws) n x) → v ≡ seen s kind n x
+unfolding fromKernel
+seen-is s kind ws n x v read e = e ∙ rw read
 
 pub seen-three : (s : State) (kind : Kind) (n : ℕ) (i : Ids) (a b d : ℕ) → a ≡ seen s kind n (i .real) → b ≡ seen s kind n (i .effective)
     → d ≡ seen s kind n (i .saved) → record { real = a; effective = b; saved = d } ≡ seenIds s kind n i
@@ -101,4 +93,4 @@ module _ (s : State) (c : ℕ) (r : Found) (named : r ≡ processNamed s c) wher
   unfolding ownIdsOf
   own-found i p a b g at read ea eb eg = rw (← named, at, ← read, ea, eb, eg)
 
-pub ruleset showing = (shown-id, shown-none, seen-root, seen-once, seen-levels, seen-three, rest-empty, seen-starts, seen-next, seen-count, seen-all, own-nobody, own-found, needs)
+pub ruleset showing = (shown-id, shown-none, shown-by, seen-is, seen-three, rest-empty, seen-starts, seen-next, seen-count, seen-all, own-nobody, own-found, needs)

@@ -3,16 +3,12 @@ ghost use mathlib.Core.Path.{_≡_};
 ghost use mathlib.Core.Option.{none};
 ghost use Prim.Native.Nat.{_≤_};
 ghost use lib.ListN.{length};
-ghost use Rattle.idmap.specs.Line.{linesIn};
-ghost use Rattle.records.specs.declared.Kind.the-variants.{Group};
-ghost use Rattle.tables.specs.Tables.{tablesOf, kernelLines};
-ghost use Rattle.hierarchy.specs.Walks.{toKernel};
+ghost use Rattle.tables.specs.Tables.{tablesOf};
 ghost use Rattle.tables.specs.Reply.{Promise};
 ghost use Rattle.credentials.specs.Calls.{withList, kernelGroups, listedOf, setGroupsOf};
 use hierarchy::capable::capable;
-use hierarchy::translate::to_kernel;
+use hierarchy::translate::to_kernel_by;
 use idmap::Translated;
-use idmap::lookup::lookup_out;
 use records::GroupList;
 use records::Kind;
 use records::Process;
@@ -45,19 +41,6 @@ fn none_listed() -> Listed
     }
 }
 
-// The kernel ID of a group, by the kernel lines of the namespace where there are some, so that a list reads where they stand only once.
-fn kernel_group(t: &Tables, lines: &[u64], namespace: u64, id: u32) -> Translated
-    requires { ⌜ linesIn (now lines) ≡ kernelLines (tablesOf (now t)) Group «namespace» ⌝ }
-    ensures { λ r. ⌜ r ≡ toKernel (tablesOf (now (t .entry))) Group «namespace» id ⌝ }
-{
-    if 0 < namespace {
-        if 3 <= lines.len() {
-            return lookup_out(lines, id);
-        }
-    }
-    to_kernel(t, Kind::Group, namespace, id)
-}
-
 // The kernel IDs of at most 16 groups, in order.
 fn kernel_groups(t: &Tables, namespace: u64, list: &[u32]) -> Listed
     requires { ⌜ length (now list) ≤ 16 ⌝ }
@@ -67,7 +50,7 @@ fn kernel_groups(t: &Tables, namespace: u64, list: &[u32]) -> Listed
     let mut ids = [0u32; 16];
     let mut i: usize = 0;
     while i < list.len() {
-        let r = kernel_group(t, lines, namespace, list[i]);
+        let r = to_kernel_by(t, Kind::Group, lines, namespace, list[i]);
         let Translated::Id(x) = r else {
             return none_listed();
         };

@@ -1,12 +1,11 @@
 // A process's own IDs, as seen in its namespace.
 ghost use mathlib.Core.Path.{_≡_};
 ghost use Rattle.idmap.specs.Line.{linesIn};
-ghost use Rattle.tables.specs.Tables.{tablesOf, kernelLines};
-ghost use Rattle.credentials.specs.Calls.{shownAs, seen, seenIds, seenGroups, ownIdsOf};
-use hierarchy::translate::back_by_levels;
-use hierarchy::translate::same;
+ghost use Rattle.tables.specs.Tables.{tablesOf};
+ghost use Rattle.hierarchy.specs.Walks.{fromKernelBy};
+ghost use Rattle.credentials.specs.Calls.{shownAs, seenIds, seenGroups, ownIdsOf};
+use hierarchy::translate::from_kernel_by;
 use idmap::Translated;
-use idmap::lookup::lookup_back;
 use records::GroupList;
 use records::Ids;
 use records::Kind;
@@ -36,27 +35,20 @@ fn shown_as(r: Translated) -> u32
     }
 }
 
-// A kernel ID as a namespace sees it, by its kernel lines where there are some, so that a list reads where they stand only once.
-fn seen_id(t: &Tables, lines: &[u64], kind: Kind, namespace: u64, id: u32) -> u32
-    requires { ⌜ linesIn (now lines) ≡ kernelLines (tablesOf (now t)) kind «namespace» ⌝ }
-    ensures { λ r. ⌜ r ≡ seen (tablesOf (now (t .entry))) kind «namespace» id ⌝ }
+// A kernel ID as a namespace sees it, by its kernel lines.
+fn seen_by(t: &Tables, kind: Kind, lines: &[u64], namespace: u64, id: u32) -> u32
+    ensures { λ r. ⌜ r ≡ shownAs (fromKernelBy (tablesOf (now (t .entry))) kind (linesIn (now (lines .entry))) «namespace» id) ⌝ }
 {
-    if namespace == 0 {
-        return shown_as(same(id));
-    }
-    if lines.len() < 3 {
-        return shown_as(back_by_levels(t, kind, namespace, id));
-    }
-    shown_as(lookup_back(lines, id))
+    shown_as(from_kernel_by(t, kind, lines, namespace, id))
 }
 
 fn seen_ids(t: &Tables, kind: Kind, namespace: u64, ids: Ids) -> Ids
     ensures { λ r. ⌜ r ≡ seenIds (tablesOf (now (t .entry))) kind «namespace» ids ⌝ }
 {
     let lines = kernel_lines(t, namespace as usize, kind);
-    let real = seen_id(t, lines, kind, namespace, ids.real);
-    let effective = seen_id(t, lines, kind, namespace, ids.effective);
-    let saved = seen_id(t, lines, kind, namespace, ids.saved);
+    let real = seen_by(t, kind, lines, namespace, ids.real);
+    let effective = seen_by(t, kind, lines, namespace, ids.effective);
+    let saved = seen_by(t, kind, lines, namespace, ids.saved);
     Ids {
         real: real,
         effective: effective,
@@ -80,7 +72,7 @@ fn seen_groups(t: &Tables, namespace: u64, groups: GroupList) -> GroupList
                 ids: ids,
             };
         }
-        ids[i] = seen_id(t, lines, Kind::Group, namespace, kernel[i]);
+        ids[i] = seen_by(t, Kind::Group, lines, namespace, kernel[i]);
         i += 1;
     }
     GroupList {

@@ -15,7 +15,7 @@ use Rattle.records.specs.declared.Kind.{Kind}
 use Rattle.records.specs.declared.Namespace.{Namespace}
 use Rattle.records.specs.Records.{mapIn, linesOf}
 use Rattle.tables.specs.Tables.{State, namespaceAt, kernelLines}
-use Rattle.hierarchy.specs.Walks.{heightOf, itself, outIn, atOnce, toKernel, backIn, fromKernel}
+use Rattle.hierarchy.specs.Walks.{heightOf, itself, outIn, atOnce, toKernelBy, toKernel, backIn, fromKernelBy, fromKernel}
 
 -- ---- height
 module _ (s : State) (place : ℕ) (n : Namespace) (read : n ≡ namespaceAt s place) where
@@ -115,40 +115,50 @@ no-lines (u ∷ []) a b h = refl
 no-lines (u ∷ v ∷ []) a b h = refl
 no-lines (u ∷ v ∷ w ∷ ws) a b h = absurd (omega arith)
 
-module _ (s : State) (kind : Kind) (n x : ℕ) (r : Translated) where
-  pub to-root : n ≡ 0 → r ≡ itself x → r ≡ toKernel s kind n x
-  unfolding toKernel
+module _ (s : State) (kind : Kind) (ws : List ℕ) (n x : ℕ) (r : Translated) where
+  pub to-root : n ≡ 0 → r ≡ itself x → r ≡ toKernelBy s kind (linesIn ws) n x
+  unfolding toKernelBy
   to-root z e = e ∙ sym (rw (eq-eqb n 0 z))
 
-  pub from-root : n ≡ 0 → r ≡ itself x → r ≡ fromKernel s kind n x
-  unfolding fromKernel
+  pub from-root : n ≡ 0 → r ≡ itself x → r ≡ fromKernelBy s kind (linesIn ws) n x
+  unfolding fromKernelBy
   from-root z e = e ∙ sym (rw (eq-eqb n 0 z))
 
-  module _ (below : n ≡ 0 → ⊥) (ws : List ℕ) (read : linesIn ws ≡ kernelLines s kind n) where
-    pub to-once : 3 ≤ length ws → r ≡ out (linesIn ws) x → r ≡ toKernel s kind n x
+  module _ (below : n ≡ 0 → ⊥) where
+    pub to-once : 3 ≤ length ws → r ≡ out (linesIn ws) x → r ≡ toKernelBy s kind (linesIn ws) n x
+    unfolding toKernelBy
+    to-once h e = e ∙ sym (rw (ne-eqb n 0 below) (some-lines ws (out (linesIn ws) x) (outIn s kind (heightOf s n) n x) h))
+
+    pub to-levels : length ws < 3 → r ≡ outIn s kind (heightOf s n) n x → r ≡ toKernelBy s kind (linesIn ws) n x
+    unfolding toKernelBy
+    to-levels h e = e ∙ sym (rw (ne-eqb n 0 below) (no-lines ws (out (linesIn ws) x) (outIn s kind (heightOf s n) n x) h))
+
+    pub from-once : 3 ≤ length ws → r ≡ back (linesIn ws) x → r ≡ fromKernelBy s kind (linesIn ws) n x
+    unfolding fromKernelBy
+    from-once h e = e ∙ sym (rw (ne-eqb n 0 below) (some-lines ws (back (linesIn ws) x) (backIn s kind (heightOf s n) n x) h))
+
+    pub from-levels : length ws < 3 → r ≡ backIn s kind (heightOf s n) n x → r ≡ fromKernelBy s kind (linesIn ws) n x
+    unfolding fromKernelBy
+    from-levels h e = e ∙ sym (rw (ne-eqb n 0 below) (no-lines ws (back (linesIn ws) x) (backIn s kind (heightOf s n) n x) h))
+
+  -- by the kernel lines that the tables have
+  module _ (read : linesIn ws ≡ kernelLines s kind n) where
+    pub to-own : r ≡ toKernelBy s kind (linesIn ws) n x → r ≡ toKernel s kind n x
     unfolding toKernel
-    to-once h e = e ∙ sym (rw (ne-eqb n 0 below, ← read) (some-lines ws (out (linesIn ws) x) (outIn s kind (heightOf s n) n x) h))
+    to-own e = e ∙ rw read
 
-    pub to-levels : length ws < 3 → r ≡ outIn s kind (heightOf s n) n x → r ≡ toKernel s kind n x
-    unfolding toKernel
-    to-levels h e = e ∙ sym (rw (ne-eqb n 0 below, ← read) (no-lines ws (out (linesIn ws) x) (outIn s kind (heightOf s n) n x) h))
-
-    pub from-once : 3 ≤ length ws → r ≡ back (linesIn ws) x → r ≡ fromKernel s kind n x
+    pub from-own : r ≡ fromKernelBy s kind (linesIn ws) n x → r ≡ fromKernel s kind n x
     unfolding fromKernel
-    from-once h e = e ∙ sym (rw (ne-eqb n 0 below, ← read) (some-lines ws (back (linesIn ws) x) (backIn s kind (heightOf s n) n x) h))
-
-    pub from-levels : length ws < 3 → r ≡ backIn s kind (heightOf s n) n x → r ≡ fromKernel s kind n x
-    unfolding fromKernel
-    from-levels h e = e ∙ sym (rw (ne-eqb n 0 below, ← read) (no-lines ws (back (linesIn ws) x) (backIn s kind (heightOf s n) n x) h))
+    from-own e = e ∙ rw read
 
 -- ---- namespace 0 translates to itself and back, whatever its maps say
 module _ (s : State) (kind : Kind) where
   pub to-kernel-root : (x : ℕ) → toKernel s kind 0 x ≡ itself x
-  unfolding toKernel
+  unfolding toKernel toKernelBy
   to-kernel-root x = refl
 
   pub from-kernel-root : (y : ℕ) → fromKernel s kind 0 y ≡ itself y
-  unfolding fromKernel
+  unfolding fromKernel fromKernelBy
   from-kernel-root y = refl
 
 pub ruleset translations = (
@@ -169,8 +179,10 @@ pub ruleset translations = (
   to-root,
   to-once,
   to-levels,
+  to-own,
   from-root,
   from-once,
   from-levels,
+  from-own,
   needs,
 )

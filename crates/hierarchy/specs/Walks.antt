@@ -34,11 +34,13 @@ abbrev pub atOnce : List Line → Translated → Translated → Translated
 atOnce [] once levels = levels
 atOnce (l ∷ ls) once levels = once
 
--- the kernel ID (document 01: station-wide ID) that an ID of namespace n stands for. That it is the one that going out level by level gives is
--- proved of the tables that calls leave: claims, `Bounds`
+-- the kernel ID (document 01: station-wide ID) that an ID of namespace n stands for, by the namespace's kernel lines ls. That it is the one that
+-- going out level by level gives is proved of the tables that calls leave: claims, `Bounds`
+unfoldable pub toKernelBy : State → Kind → List Line → ℕ → ℕ → Translated
+toKernelBy s kind ls n x = cond (eqb n 0) (itself x) (atOnce ls (out ls x) (outIn s kind (heightOf s n) n x))
+
 unfoldable pub toKernel : State → Kind → ℕ → ℕ → Translated
-toKernel s kind n x =
-    cond (eqb n 0) (itself x) (atOnce (kernelLines s kind n) (out (kernelLines s kind n) x) (outIn s kind (heightOf s n) n x))
+toKernel s kind n x = toKernelBy s kind (kernelLines s kind n) n x
 
 -- document 01: coming back, from namespace 0 down to namespace n
 unfoldable pub backIn : State → Kind → ℕ → ℕ → ℕ → Translated
@@ -46,10 +48,12 @@ backIn s kind zero n y = cond (eqb n 0) (itself y) Unmapped
 backIn s kind (suc k) n y =
     cond (eqb n 0) (itself y) (thenId (backIn s kind k (namespaceAt s n .parent) y) (λ z. back (linesOf (mapIn kind (namespaceAt s n))) z))
 
--- the ID of namespace n that stands for a kernel ID
+-- the ID of namespace n that stands for a kernel ID, by the namespace's kernel lines ls
+unfoldable pub fromKernelBy : State → Kind → List Line → ℕ → ℕ → Translated
+fromKernelBy s kind ls n y = cond (eqb n 0) (itself y) (atOnce ls (back ls y) (backIn s kind (heightOf s n) n y))
+
 unfoldable pub fromKernel : State → Kind → ℕ → ℕ → Translated
-fromKernel s kind n y =
-    cond (eqb n 0) (itself y) (atOnce (kernelLines s kind n) (back (kernelLines s kind n) y) (backIn s kind (heightOf s n) n y))
+fromKernel s kind n y = fromKernelBy s kind (kernelLines s kind n) n y
 
 -- ---- who holds a capability
 -- the second rule: the namespace's parent is the process's own, and its owner is the process's effective user

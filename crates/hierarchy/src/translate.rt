@@ -1,7 +1,8 @@
 // Translation of IDs between a namespace and the initial one.
 ghost use mathlib.Core.Path.{_≡_};
+ghost use Rattle.idmap.specs.Line.{linesIn};
 ghost use Rattle.tables.specs.Tables.{tablesOf};
-ghost use Rattle.hierarchy.specs.Walks.{heightOf, itself, outIn, toKernel, backIn, fromKernel};
+ghost use Rattle.hierarchy.specs.Walks.{heightOf, itself, outIn, toKernelBy, toKernel, backIn, fromKernelBy, fromKernel};
 use idmap::Translated;
 use idmap::lookup::lookup_back;
 use idmap::lookup::lookup_out;
@@ -20,7 +21,7 @@ pub fn height(t: &Tables, place: u64) -> u64
 }
 
 // In the initial namespace each ID but 'no ID' stands for itself.
-pub fn same(id: u32) -> Translated
+fn same(id: u32) -> Translated
     ensures { λ r. ⌜ r ≡ itself id ⌝ }
 {
     if id == 4294967295 {
@@ -55,18 +56,24 @@ fn up(t: &Tables, kind: Kind, place: u64, id: u32) -> Translated
     }
 }
 
-// The kernel ID that an ID of a namespace stands for. Linux: make_kuid, make_kgid.
-pub fn to_kernel(t: &Tables, kind: Kind, place: u64, id: u32) -> Translated
-    ensures { λ r. ⌜ r ≡ toKernel (tablesOf (now (t .entry))) kind place id ⌝ }
+// The kernel ID that an ID of a namespace stands for, by its kernel lines. A list of IDs reads where they stand only once.
+pub fn to_kernel_by(t: &Tables, kind: Kind, lines: &[u64], place: u64, id: u32) -> Translated
+    ensures { λ r. ⌜ r ≡ toKernelBy (tablesOf (now (t .entry))) kind (linesIn (now (lines .entry))) place id ⌝ }
 {
     if place == 0 {
         return same(id);
     }
-    let lines = kernel_lines(t, place as usize, kind);
     if 3 <= lines.len() {
         return lookup_out(lines, id);
     }
     up(t, kind, place, id)
+}
+
+// The kernel ID that an ID of a namespace stands for. Linux: make_kuid, make_kgid.
+pub fn to_kernel(t: &Tables, kind: Kind, place: u64, id: u32) -> Translated
+    ensures { λ r. ⌜ r ≡ toKernel (tablesOf (now (t .entry))) kind place id ⌝ }
+{
+    to_kernel_by(t, kind, kernel_lines(t, place as usize, kind), place, id)
 }
 
 // The ID of the namespace at `at`, `left` steps at most below the initial one, that stands for a kernel ID.
@@ -88,22 +95,28 @@ fn down(t: &Tables, kind: Kind, left: u64, at: u64, id: u32) -> Translated
 }
 
 // The ID of a namespace for a kernel ID, level by level.
-pub fn back_by_levels(t: &Tables, kind: Kind, place: u64, id: u32) -> Translated
+fn back_by_levels(t: &Tables, kind: Kind, place: u64, id: u32) -> Translated
     ensures { λ r. ⌜ r ≡ backIn (tablesOf (now (t .entry))) kind (heightOf (tablesOf (now (t .entry))) place) place id ⌝ }
 {
     down(t, kind, height(t, place), place, id)
+}
+
+// The ID of a namespace that stands for a kernel ID, by its kernel lines.
+pub fn from_kernel_by(t: &Tables, kind: Kind, lines: &[u64], place: u64, id: u32) -> Translated
+    ensures { λ r. ⌜ r ≡ fromKernelBy (tablesOf (now (t .entry))) kind (linesIn (now (lines .entry))) place id ⌝ }
+{
+    if place == 0 {
+        return same(id);
+    }
+    if lines.len() < 3 {
+        return back_by_levels(t, kind, place, id);
+    }
+    lookup_back(lines, id)
 }
 
 // The ID of a namespace that stands for a kernel ID. Linux: from_kuid, from_kgid.
 pub fn from_kernel(t: &Tables, kind: Kind, place: u64, id: u32) -> Translated
     ensures { λ r. ⌜ r ≡ fromKernel (tablesOf (now (t .entry))) kind place id ⌝ }
 {
-    if place == 0 {
-        return same(id);
-    }
-    let lines = kernel_lines(t, place as usize, kind);
-    if 3 <= lines.len() {
-        return lookup_back(lines, id);
-    }
-    back_by_levels(t, kind, place, id)
+    from_kernel_by(t, kind, kernel_lines(t, place as usize, kind), place, id)
 }

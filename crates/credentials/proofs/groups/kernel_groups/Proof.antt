@@ -4,7 +4,9 @@ use mathlib.Core.Path.{_≡_}
 use Prim.Native.Nat.{_≤_, _-_}
 use borrow.Author.Needs.{needs}
 use lib.ListN.{length, drop, replicate}
-use Rattle.tables.specs.Tables.{tablesOf}
+use Rattle.idmap.specs.Line.{linesIn}
+use Rattle.records.specs.declared.Kind.the-variants.{Group}
+use Rattle.tables.specs.Tables.{tablesOf, kernelLines}
 use Rattle.credentials.specs.Calls.{kernelGroups}
 use Rattle.credentials.proofs.GroupLists.{kernelFrom, kernel-next, rest-empty, grouping}
 use Rattle.credentials.proofs.groups.kernel_groups.Statement.{statement}
@@ -12,7 +14,7 @@ use Rattle.credentials.proofs.groups.kernel_groups.Tie as tie
 
 abbrev Inv-loop : tie.InvT-loop
 Inv-loop t namespace list lines ids₀ i₀ ids i =
-    (i ≤ length list) × (length ids ≡ 16) × (drop i ids ≡ replicate (16 - i) 0) × (kernelGroups (tablesOf t) namespace list ≡ kernelFrom (tablesOf t) namespace list ids i)
+    (i ≤ length list) × (length ids ≡ 16) × (drop i ids ≡ replicate (16 - i) 0) × (kernelGroups (tablesOf t) namespace list ≡ kernelFrom (tablesOf t) namespace list ids i) × (linesIn lines ≡ kernelLines (tablesOf t) Group namespace)
 
 abbrev μ-loop : tie.MeasureT-loop
 μ-loop t namespace list lines ids₀ i₀ ids i = length list - i
@@ -28,7 +30,8 @@ loop-again c =
       search needs,
       rest-empty (turn .before .loop .ids) (turn .before .loop .i) _ (search needs) (inv .2),
       kernel-next _ _ (start .args .list .now) (turn .before .loop .ids) _ (inv .3) (turn .loop-test .taken)
-          _ (at-read .kernel-group .ensures) _ told (start .pre) (inv .1),
+          _ _ (inv .4) (at-read .to-kernel-by .ensures) _ told (start .pre) (inv .1),
+      inv .4,
     )
 
 pub kernel-groups-spec : {M : Type 1} → statement M
@@ -36,9 +39,9 @@ kernel-groups-spec =
     tie.close (tie.spec Inv-loop μ-loop
     (λ c κs. search grouping)  -- kernel-lines-requires
     (λ c. search grouping)  -- loop-holds
-    (λ c. search grouping)  -- mul-kernel-group
-    (λ c. search grouping)  -- shared-slice-read-kernel-group
-    (λ c κs. search grouping)  -- kernel-group-requires
+    (λ c. search grouping)  -- mul-to-kernel-by
+    (λ c. search grouping)  -- shared-slice-read-to-kernel-by
+    (λ c κs. search grouping)  -- to-kernel-by-requires
     (λ c. search grouping)  -- enum-known-r
     (λ c. search grouping)  -- enum-told
     (λ c κs. search grouping)  -- none-listed-requires

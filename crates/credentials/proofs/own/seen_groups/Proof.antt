@@ -3,7 +3,9 @@
 use mathlib.Core.Path.{_≡_}
 use Prim.Native.Nat.{_≤_, _-_}
 use lib.ListN.{length, drop, replicate}
-use Rattle.tables.specs.Tables.{tablesOf}
+use Rattle.idmap.specs.Line.{linesIn}
+use Rattle.records.specs.declared.Kind.the-variants.{Group}
+use Rattle.tables.specs.Tables.{tablesOf, kernelLines}
 use Rattle.credentials.proofs.OwnIds.{SeenTo}
 use Rattle.credentials.proofs.OwnIds.{showing}
 use Rattle.credentials.proofs.own.seen_groups.Statement.{statement}
@@ -11,7 +13,7 @@ use Rattle.credentials.proofs.own.seen_groups.Tie as tie
 
 abbrev Inv-loop : tie.InvT-loop
 Inv-loop t namespace lines kernel listed ids₀ i₀ ids i =
-    (i ≤ 16) × (i ≤ listed) × (length ids ≡ 16) × (drop i ids ≡ replicate (16 - i) 0) × SeenTo (tablesOf t) namespace kernel ids i
+    (i ≤ 16) × (i ≤ listed) × (length ids ≡ 16) × (drop i ids ≡ replicate (16 - i) 0) × SeenTo (tablesOf t) namespace kernel ids i × (linesIn lines ≡ kernelLines (tablesOf t) Group namespace)
 
 abbrev μ-loop : tie.MeasureT-loop
 μ-loop t namespace lines kernel listed ids₀ i₀ ids i = 16 - i
@@ -22,9 +24,9 @@ seen-groups-spec =
     (λ c κs. search showing)  -- kernel-lines-requires
     (λ c. search showing)  -- loop-holds
     (λ c. search showing)  -- returns
-    (λ c. search showing)  -- mul-seen-id
-    (λ c. search showing)  -- array-read-seen-id
-    (λ c κs. search showing)  -- seen-id-requires
+    (λ c. search showing)  -- mul-seen-by
+    (λ c. search showing)  -- array-read-seen-by
+    (λ c κs. search showing)  -- seen-by-requires
     (λ c. search showing)  -- mul-ids
     (λ c. search showing)  -- array-write-ids
     (λ c. search showing)  -- add-i

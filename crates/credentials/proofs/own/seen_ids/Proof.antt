@@ -7,7 +7,7 @@ pub seen-ids-spec : {M : Type 1} → statement M
 seen-ids-spec =
     tie.close (tie.spec
     (λ c κs. search showing)  -- kernel-lines-requires
-    (λ c κs. search showing)  -- seen-id-requires
-    (λ c κs. search showing)  -- seen-id-requires-2
-    (λ c κs. search showing)  -- seen-id-requires-3
+    (λ c κs. search showing)  -- seen-by-requires
+    (λ c κs. search showing)  -- seen-by-requires-2
+    (λ c κs. search showing)  -- seen-by-requires-3
     (λ c. search showing))  -- returns

@@ -6,10 +6,6 @@ use Rattle.hierarchy.proofs.translate.from_kernel.Tie as tie
 pub from-kernel-spec : {M : Type 1} → statement M
 from-kernel-spec =
     tie.close (tie.spec
-    (λ c κs. search translations)  -- same-requires
-    (λ c. search translations)  -- returns
     (λ c κs. search translations)  -- kernel-lines-requires
-    (λ c κs. search translations)  -- lookup-back-requires
-    (λ c. search translations)  -- returns-2
-    (λ c κs. search translations)  -- back-by-levels-requires
-    (λ c. search translations))  -- returns-3
+    (λ c κs. search translations)  -- from-kernel-by-requires
+    (λ c. search translations))  -- returns

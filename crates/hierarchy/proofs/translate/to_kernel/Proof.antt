@@ -6,10 +6,6 @@ use Rattle.hierarchy.proofs.translate.to_kernel.Tie as tie
 pub to-kernel-spec : {M : Type 1} → statement M
 to-kernel-spec =
     tie.close (tie.spec
-    (λ c κs. search translations)  -- same-requires
-    (λ c. search translations)  -- returns
     (λ c κs. search translations)  -- kernel-lines-requires
-    (λ c κs. search translations)  -- lookup-out-requires
-    (λ c. search translations)  -- returns-2
-    (λ c κs. search translations)  -- up-requires
-    (λ c. search translations))  -- returns-3
+    (λ c κs. search translations)  -- to-kernel-by-requires
+    (λ c. search translations))  -- returns
