@@ -1,2 +1,0 @@
-pub mod Compose
-pub mod Adding

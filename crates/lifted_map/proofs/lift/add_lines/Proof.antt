@@ -1,0 +1,31 @@
+-- `lifted_map::lift::add_lines` meets its contract. Assumes nothing.
+use mathlib.Core.Path.{_≡_}
+use mathlib.Core.List.{[]}
+use mathlib.Core.Option.{some}
+use Prim.Native.Nat.{_-_, min}
+use lib.ListN.{take, drop}
+use Rattle.idmap.specs.Line.{linesIn}
+use Rattle.lifted_map.specs.Adding.{piecesIn}
+use Rattle.lifted_map.proofs.Adding.{addedLines}
+use Rattle.lifted_map.proofs.Adding.{adding}
+use Rattle.lifted_map.proofs.lift.add_lines.Statement.{statement}
+use Rattle.lifted_map.proofs.lift.add_lines.Tie as tie
+
+abbrev Inv-loop : tie.InvT-loop
+Inv-loop row₀ above count lines end n₀ i₀ row n i = (end ≡ min count 5) × (addedLines (piecesIn row n) (linesIn above) (drop i (take count lines)) ≡ addedLines (some []) (linesIn above) (take count lines))
+
+abbrev μ-loop : tie.MeasureT-loop
+μ-loop row₀ above count lines end n₀ i₀ row n i = end - i
+
+pub add-lines-spec : {M : Type 1} → statement M
+add-lines-spec =
+    tie.close (tie.spec Inv-loop μ-loop
+    (λ c κs. search adding)  -- given-requires
+    (λ c. search adding)  -- loop-holds
+    (λ c. search adding)  -- mul-l
+    (λ c. search adding)  -- array-copy-out-l
+    (λ c κs. search adding)  -- add-all-requires
+    (λ c. search adding)  -- add-i
+    (λ c. search adding)  -- loop-less
+    (λ c. search adding)  -- loop-again
+    (λ c. search adding))  -- returns

@@ -1,0 +1,8 @@
+// Lifted maps: the map of a namespace with the IDs of a namespace further up on the parent side, of the initial one where its lines are few enough, so
+// that one search translates through all the levels between. A lifted map is made from the map and the lifted map of the parent, and kept as a
+// row of words.
+pub mod lift;
+pub mod read;
+
+// The number of lines, the base, which is the namespace whose IDs are on the parent side, and three words for each of up to 33 lines.
+pub type LiftedMap = [u64; 101];

@@ -1,0 +1,145 @@
+// A map lifted over the lifted map of its parent.
+ghost use mathlib.Core.Path.{_≡_};
+ghost use mathlib.Core.List.{[], map};
+ghost use mathlib.Core.Option.{some};
+ghost use Prim.Native.Nat.{_-_, _≤_, min};
+ghost use lib.ListN.{length, take, set};
+ghost use Rattle.idmap.specs.Good.{maxLines};
+ghost use Rattle.idmap.specs.Line.{linesIn};
+ghost use Rattle.lifted_map.specs.Lift.{commonOf, piecesOf, placesIn, liftedIn, liftedOf};
+ghost use Rattle.lifted_map.specs.Adding.{piecesIn, added, addedAll};
+use crate::LiftedMap;
+use idmap::Line;
+use idmap::MAX_LINES;
+use idmap::overlap::least;
+use idmap::overlap::most;
+
+// How far it is from `start` to `end`; 0 where `end` comes first.
+fn distance(start: u64, end: u64) -> u64
+    ensures { λ r. ⌜ r ≡ end - start ⌝ }
+{
+    if start < end { end - start } else { 0 }
+}
+
+// The piece of line `l` that goes through line `p` of the map above.
+fn common(l: Line, p: Line) -> Line
+    ensures { λ r. ⌜ r ≡ commonOf l p ⌝ }
+{
+    let below = l.parent as u64;
+    let above = p.inside as u64;
+    let start = most(below, above);
+    let end = least(below + l.count as u64, above + p.count as u64);
+    Line {
+        inside: std::num::wrapping_add_u32(l.inside, (start - below) as u32),
+        parent: std::num::wrapping_add_u32(p.parent, (start - above) as u32),
+        count: distance(start, end) as u32,
+    }
+}
+
+// Stores a line at place `n` of a row. There is no place 33.
+fn put(row: &mut LiftedMap, n: usize, l: Line)
+    requires { ⌜ n ≤ 33 ⌝ }
+    ensures stored { λ r. ⌜ placesIn (now (row .exit)) ≡ set (placesIn (now (row .entry))) n l ⌝ }
+    ensures room { λ r. ⌜ length (placesIn (now (row .entry))) ≡ 33 ⌝ }
+{
+    let words = [l.inside as u64, l.parent as u64, l.count as u64];
+    rows::put(row, 2 + n * 3, &words);
+}
+
+// Stores how many lines a row has, and its base.
+fn put_head(row: &mut LiftedMap, count: usize, base: u64)
+    ensures { λ r. ⌜ liftedIn (now (row .exit)) ≡ record { base = base; lines = take count (placesIn (now (row .entry))) } ⌝ }
+{
+    let words = [count as u64, base];
+    rows::put(row, 0, &words);
+}
+
+// Adds a piece to the `n` that a row has, unless it is empty. Answers how many there are now; over 33 where there is no room, and then nothing is
+// stored any more.
+fn add(row: &mut LiftedMap, n: usize, piece: Line) -> usize
+    ensures { λ r. ⌜ piecesIn (now (row .exit)) r ≡ added (piecesIn (now (row .entry)) n) piece ⌝ }
+{
+    if piece.count == 0 {
+        return n;
+    }
+    if 33 < n {
+        return n;
+    }
+    put(row, n, piece);
+    n + 1
+}
+
+// Adds the pieces of line `l`.
+fn add_all(row: &mut LiftedMap, n: usize, above: &[u64], l: Line) -> usize
+    ensures { λ r. ⌜ piecesIn (now (row .exit)) r ≡ addedAll (piecesIn (now (row .entry)) n) (map (commonOf l) (linesIn (now (above .entry)))) ⌝ }
+{
+    let mut k = n;
+    let mut i: usize = 0;
+    while 3 <= above.len() - i {
+        let p = Line {
+            inside: (above[i] % 4294967296) as u32,
+            parent: (above[i + 1] % 4294967296) as u32,
+            count: (above[i + 2] % 4294967296) as u32,
+        };
+        k = add(row, k, common(l, p));
+        i += 3;
+    }
+    k
+}
+
+// How many lines of a map there are, of `count`.
+fn given(count: usize) -> usize
+    ensures { λ r. ⌜ r ≡ min count maxLines ⌝ }
+{
+    if count < MAX_LINES { count } else { MAX_LINES }
+}
+
+// Adds the pieces of the first `count` lines to a row that has none.
+fn add_lines(row: &mut LiftedMap, above: &[u64], lines: [Line; MAX_LINES], count: usize) -> usize
+    ensures { λ r. ⌜ piecesIn (now (row .exit)) r ≡ addedAll (some []) (piecesOf (linesIn (now (above .entry))) (take count lines)) ⌝ }
+{
+    let end = given(count);
+    let mut n: usize = 0;
+    let mut i: usize = 0;
+    while i < end {
+        let l = lines[i];
+        n = add_all(row, n, above, l);
+        i += 1;
+    }
+    n
+}
+
+// The first `count` lines as they are, with their parent as the base.
+fn as_written(lines: [Line; MAX_LINES], count: usize, parent: u64) -> LiftedMap
+    ensures { λ r. ⌜ liftedIn r ≡ record { base = parent; lines = take count lines } ⌝ }
+{
+    let mut row: LiftedMap = [0; 101];
+    let end = given(count);
+    let mut i: usize = 0;
+    while i < end {
+        let l = lines[i];
+        put(&mut row, i, l);
+        i += 1;
+    }
+    put_head(&mut row, end, parent);
+    row
+}
+
+// The first `count` lines of a map, lifted over the lifted map of the parent, whose lines and base are given.
+pub fn lift(
+    above: &[u64],
+    base: u64,
+    parent: u64,
+    lines: [Line; MAX_LINES],
+    count: usize,
+) -> LiftedMap
+    ensures { λ r. ⌜ liftedIn r ≡ liftedOf (record { base = base; lines = linesIn (now (above .entry)) }) parent (take count lines) ⌝ }
+{
+    let mut row: LiftedMap = [0; 101];
+    let n = add_lines(&mut row, above, lines, count);
+    if 33 < n {
+        return as_written(lines, count, parent);
+    }
+    put_head(&mut row, n, base);
+    row
+}

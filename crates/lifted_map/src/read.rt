@@ -1,0 +1,26 @@
+// A lifted map, where it stands.
+ghost use mathlib.Core.Path.{_≡_};
+ghost use Rattle.idmap.specs.Line.{linesIn};
+ghost use Rattle.lifted_map.specs.Lift.{countedLines, liftedIn};
+
+// The words of the lines of a lifted map, among the words that hold it. What reaches past the end is cut off.
+pub fn lines_in(row: &[u64]) -> &[u64]
+    ensures { λ r. ⌜ linesIn (now r) ≡ countedLines (now (row .entry)) ⌝ }
+{
+    if row.len() == 0 {
+        return rows::get(row, 0, 0);
+    }
+    let n = row[0];
+    if n < 33 {
+        rows::get(row, 2, (n as usize) * 3)
+    } else {
+        rows::get(row, 2, 99)
+    }
+}
+
+// The base of a lifted map.
+pub fn base_in(row: &[u64]) -> u64
+    ensures { λ r. ⌜ r ≡ liftedIn (now (row .entry)) .base ⌝ }
+{
+    if 1 < row.len() { row[1] } else { 0 }
+}
