@@ -1,7 +1,7 @@
 -- The initial tables, filled place by place. Assumes nothing.
 use Prim.Native.Nat.{ℕ, _+_, _-_, _≤_, _<_}
 use mathlib.Core.Path.{_≡_, refl, sym, ap, _∙_}
-use mathlib.Core.List.{List, [], _∷_, append-nil}
+use mathlib.Core.List.{List, append-nil}
 use mathlib.Core.Bool.{true, false}
 use native.Mathlib.Nat.{zero-add}
 use native.Mathlib.Numerals.{add-one}
@@ -11,17 +11,16 @@ use lib.Seq.{paste, paste-zero, paste-suc, take-all}
 use lib.ListN.{getD-replicate}
 use borrow.Author.Needs.{needs}
 use Rattle.prelude.specs.Parts.{part}
-use Rattle.idmap.specs.declared.Line.{Line}
 use Rattle.idmap.specs.Line.{linesIn}
-use Rattle.kernel_map.specs.Compose.{countedLines}
+use Rattle.lifted_map.specs.Lift.{Lifted, countedLines, liftedIn}
 use Rattle.records.specs.declared.Process.{Process}
 use Rattle.records.specs.declared.Namespace.{Namespace}
 use Rattle.records.specs.declared.IdMap.{IdMap}
 use Rattle.records.specs.declared.Kind.{Kind}
 use Rattle.records.specs.declared.Kind.the-variants.{User, Group}
 use Rattle.records.specs.Records.{freeProcess, freeNamespace}
-use Rattle.tables.specs.Tables.{State, tablesOf, kernelMaps, putProcess, putNamespace, putKernelMap, withProcesses, withNamespaces, withKernelMaps, firstProcess, fixedLine, fixedMap, rootNamespace, firstKernelMaps, initialTables}
-use Rattle.tables.proofs.Tables.{length-processes, length-namespaces, length-kernel-maps}
+use Rattle.tables.specs.Tables.{State, tablesOf, liftedMaps, putProcess, putNamespace, putLiftedMap, withProcesses, withNamespaces, withLiftedMaps, firstProcess, fixedMap, noLift, fixedLift, rootNamespace, firstLiftedMaps, initialTables}
+use Rattle.tables.proofs.Tables.{length-processes, length-namespaces, length-lifted-maps}
 
 module _ {A : Type 0} (qs ps : List A) where
   fill-more : (i : ℕ) (d : A) → i < length qs → i < length ps → set (paste qs 0 ps i) i (getD ps i d) ≡ paste qs 0 ps (i + 1)
@@ -88,46 +87,46 @@ module _ (l : List ℕ) where
         let k = length-namespaces l in
         e ∙ rw (q, inv, fill-all (tablesOf l .namespaces) (replicate 64 freeNamespace) i (omega arith) h)
 
--- ---- kernel maps, of a kind
-pub kernelMapsIn : State → Kind → ℕ → State
-kernelMapsIn s k i = withKernelMaps s k (paste (kernelMaps k s) 0 (replicate 64 []) i)
+-- ---- lifted maps, of a kind
+pub liftedMapsIn : State → Kind → ℕ → State
+liftedMapsIn s k i = withLiftedMaps s k (paste (liftedMaps k s) 0 (replicate 64 noLift) i)
 
 -- lists put one after the other: the last one stands
-put-again : (s : State) (k : Kind) (ms : List (List Line)) (i : ℕ) (m : List Line) → putKernelMap (withKernelMaps s k ms) k i m ≡ withKernelMaps s k (set ms i m)
+put-again : (s : State) (k : Kind) (ms : List Lifted) (i : ℕ) (m : Lifted) → putLiftedMap (withLiftedMaps s k ms) k i m ≡ withLiftedMaps s k (set ms i m)
 put-again s User ms i m = refl
 put-again s Group ms i m = refl
 
-put-none : (s : State) (k : Kind) → s ≡ withKernelMaps s k (kernelMaps k s)
+put-none : (s : State) (k : Kind) → s ≡ withLiftedMaps s k (liftedMaps k s)
 put-none s User = refl
 put-none s Group = refl
 
 module _ (l : List ℕ) (k : Kind) where
-  pub kernel-maps-none : tablesOf l ≡ kernelMapsIn (tablesOf l) k 0
-  unfolding kernelMapsIn
-  kernel-maps-none = put-none (tablesOf l) k ∙ ap (withKernelMaps (tablesOf l) k) (paste-zero (kernelMaps k (tablesOf l)) 0 (replicate 64 []))
+  pub lifted-maps-none : tablesOf l ≡ liftedMapsIn (tablesOf l) k 0
+  unfolding liftedMapsIn
+  lifted-maps-none = put-none (tablesOf l) k ∙ ap (withLiftedMaps (tablesOf l) k) (paste-zero (liftedMaps k (tablesOf l)) 0 (replicate 64 noLift))
 
-  module _ (l′ : List ℕ) (i : ℕ) (inv : tablesOf l′ ≡ kernelMapsIn (tablesOf l) k i) where
-    pub kernel-maps-more : (free : List Line) (s : State) → i < 64 → free ≡ [] → s ≡ putKernelMap (tablesOf l′) k i free → s ≡ kernelMapsIn (tablesOf l) k (i + 1)
-    unfolding kernelMapsIn
-    kernel-maps-more free s h q e =
-        let j = length-kernel-maps k l in
-        let d : _≡_ {A = List Line} (getD (replicate 64 []) i []) [] = getD-replicate 64 i [] [] h in
-        let ms = paste (kernelMaps k (tablesOf l)) 0 (replicate 64 []) i in
-        e ∙ rw (q, inv) (put-again (tablesOf l) k ms i [] ∙ ap (λ (m : List Line). withKernelMaps (tablesOf l) k (set ms i m)) (sym d) ∙ ap (withKernelMaps (tablesOf l) k) (fill-more (kernelMaps k (tablesOf l)) (replicate 64 []) i [] (omega arith) h))
+  module _ (l′ : List ℕ) (i : ℕ) (inv : tablesOf l′ ≡ liftedMapsIn (tablesOf l) k i) where
+    pub lifted-maps-more : (free : Lifted) (s : State) → i < 64 → free ≡ noLift → s ≡ putLiftedMap (tablesOf l′) k i free → s ≡ liftedMapsIn (tablesOf l) k (i + 1)
+    unfolding liftedMapsIn
+    lifted-maps-more free s h q e =
+        let j = length-lifted-maps k l in
+        let d : getD (replicate 64 noLift) i noLift ≡ noLift = getD-replicate 64 i noLift noLift h in
+        let ms = paste (liftedMaps k (tablesOf l)) 0 (replicate 64 noLift) i in
+        e ∙ rw (q, inv) (put-again (tablesOf l) k ms i noLift ∙ ap (λ (m : Lifted). withLiftedMaps (tablesOf l) k (set ms i m)) (sym d) ∙ ap (withLiftedMaps (tablesOf l) k) (fill-more (liftedMaps k (tablesOf l)) (replicate 64 noLift) i noLift (omega arith) h))
 
-    pub kernel-maps-all : (fixed : List Line) (s : State) → 64 ≤ i → fixed ≡ fixedLine ∷ [] → s ≡ putKernelMap (tablesOf l′) k 0 fixed → s ≡ withKernelMaps (tablesOf l) k firstKernelMaps
-    unfolding kernelMapsIn firstKernelMaps
-    kernel-maps-all fixed s h q e =
-        let j = length-kernel-maps k l in
-        e ∙ rw (q, inv, fill-all (kernelMaps k (tablesOf l)) (replicate 64 []) i (omega arith) h) (put-again (tablesOf l) k (replicate 64 []) 0 (fixedLine ∷ []))
+    pub lifted-maps-all : (fixed : Lifted) (s : State) → 64 ≤ i → fixed ≡ fixedLift → s ≡ putLiftedMap (tablesOf l′) k 0 fixed → s ≡ withLiftedMaps (tablesOf l) k firstLiftedMaps
+    unfolding liftedMapsIn firstLiftedMaps
+    lifted-maps-all fixed s h q e =
+        let j = length-lifted-maps k l in
+        e ∙ rw (q, inv, fill-all (liftedMaps k (tablesOf l)) (replicate 64 noLift) i (omega arith) h) (put-again (tablesOf l) k (replicate 64 noLift) 0 fixedLift)
 
 -- the rows of words that they are filled with
-pub row-empty : countedLines (replicate 100 0) ≡ []
-unfolding countedLines part linesIn
+pub row-empty : liftedIn (replicate 101 0) ≡ noLift
+unfolding liftedIn countedLines part linesIn
 row-empty = refl
 
-pub row-fixed : countedLines (set (set (replicate 100 0) 0 1) 3 4294967295) ≡ fixedLine ∷ []
-unfolding countedLines part linesIn
+pub row-fixed : liftedIn (set (set (replicate 101 0) 0 1) 4 4294967295) ≡ fixedLift
+unfolding liftedIn countedLines part linesIn
 row-fixed = refl
 
 -- ---- the root, and all
@@ -135,7 +134,7 @@ pub root-made : (m : IdMap) → m ≡ fixedMap → record { live = true; parent 
 root-made m e = rw e
 
 pub all-filled : (s₀ s₁ s₂ s₃ s₄ : State) → s₁ ≡ withProcesses s₀ (initialTables .processes) → s₂ ≡ withNamespaces s₁ (initialTables .namespaces)
-    → s₃ ≡ withKernelMaps s₂ User firstKernelMaps → s₄ ≡ withKernelMaps s₃ Group firstKernelMaps → s₄ ≡ initialTables
+    → s₃ ≡ withLiftedMaps s₂ User firstLiftedMaps → s₄ ≡ withLiftedMaps s₃ Group firstLiftedMaps → s₄ ≡ initialTables
 unfolding initialTables
 all-filled s₀ s₁ s₂ s₃ s₄ e q u g = g ∙ rw (u, q, e)
 
@@ -147,9 +146,9 @@ pub ruleset filling = (
   namespaces-none,
   namespaces-more,
   namespaces-all,
-  kernel-maps-none,
-  kernel-maps-more,
-  kernel-maps-all,
+  lifted-maps-none,
+  lifted-maps-more,
+  lifted-maps-all,
   row-empty,
   row-fixed,
   root-made,

@@ -1,16 +1,15 @@
 -- Reads after stores: a store changes what its own place reads as, and no other. Assumes nothing.
 use Prim.Native.Nat.{ℕ, _<_}
 use mathlib.Core.Path.{_≡_, refl}
-use mathlib.Core.List.{List, []}
 use lib.ListN.{length}
 use lib.Seq.{getD-set-same, getD-set-other}
-use Rattle.idmap.specs.declared.Line.{Line}
+use Rattle.lifted_map.specs.Lift.{Lifted}
 use Rattle.records.specs.declared.Process.{Process}
 use Rattle.records.specs.declared.Namespace.{Namespace}
 use Rattle.records.specs.declared.Kind.{Kind}
 use Rattle.records.specs.declared.Kind.the-variants.{User, Group}
 use Rattle.records.specs.Records.{freeProcess, freeNamespace}
-use Rattle.tables.specs.Tables.{State, processAt, namespaceAt, kernelMaps, kernelLines, putProcess, putNamespace, putKernelMap}
+use Rattle.tables.specs.Tables.{State, processAt, namespaceAt, liftedMaps, noLift, liftedAt, putProcess, putNamespace, putLiftedMap}
 
 module _ (s : State) (i : ℕ) (p : Process) where
   pub process-stored : i < length (s .processes) → processAt (putProcess s i p) i ≡ p
@@ -39,13 +38,13 @@ module _ (s : State) (i : ℕ) (n : Namespace) where
   unfolding processAt
   namespace-apart j = refl
 
-module _ (s : State) (i : ℕ) (m : List Line) where
-  pub kernel-map-stored : (k : Kind) → i < length (kernelMaps k s) → kernelLines (putKernelMap s k i m) k i ≡ m
-  unfolding kernelLines
-  kernel-map-stored User h = getD-set-same (s .kernelUsers) i m [] h
-  kernel-map-stored Group h = getD-set-same (s .kernelGroups) i m [] h
+module _ (s : State) (i : ℕ) (m : Lifted) where
+  pub lifted-map-stored : (k : Kind) → i < length (liftedMaps k s) → liftedAt (putLiftedMap s k i m) k i ≡ m
+  unfolding liftedAt
+  lifted-map-stored User h = getD-set-same (s .liftedUsers) i m noLift h
+  lifted-map-stored Group h = getD-set-same (s .liftedGroups) i m noLift h
 
-  pub kernel-map-kept : (k : Kind) (j : ℕ) → (j ≡ i → ⊥) → kernelLines (putKernelMap s k i m) k j ≡ kernelLines s k j
-  unfolding kernelLines
-  kernel-map-kept User j h = getD-set-other (s .kernelUsers) i j m [] h
-  kernel-map-kept Group j h = getD-set-other (s .kernelGroups) i j m [] h
+  pub lifted-map-kept : (k : Kind) (j : ℕ) → (j ≡ i → ⊥) → liftedAt (putLiftedMap s k i m) k j ≡ liftedAt s k j
+  unfolding liftedAt
+  lifted-map-kept User j h = getD-set-other (s .liftedUsers) i j m noLift h
+  lifted-map-kept Group j h = getD-set-other (s .liftedGroups) i j m noLift h

@@ -8,17 +8,16 @@ use lib.ListN.{length, set}
 use borrow.Author.Needs.{needs}
 use Rattle.prelude.specs.Parts.{part, putAt}
 use Rattle.prelude.proofs.Parts.{length-part}
-use Rattle.idmap.specs.declared.Line.{Line}
 use Rattle.rows.specs.Rows.{rows}
 use Rattle.rows.proofs.Rows.{row-put, row-get, row-none, row-out, rows-apart, length-rows}
-use Rattle.kernel_map.specs.Compose.{countedLines}
+use Rattle.lifted_map.specs.Lift.{Lifted, liftedIn}
 use Rattle.records.specs.declared.Process.{Process}
 use Rattle.records.specs.declared.Namespace.{Namespace}
 use Rattle.records.specs.declared.Kind.{Kind}
 use Rattle.records.specs.declared.Kind.the-variants.{User, Group}
 use Rattle.records.specs.Records.{processOf, processFrom, freeProcess, namespaceOf, namespaceFrom, freeNamespace}
 use Rattle.records.proofs.Records.{process-whole, namespace-whole}
-use Rattle.tables.specs.Tables.{State, tablesOf, processAt, namespaceAt, kernelMaps, putProcess, putNamespace, putKernelMap}
+use Rattle.tables.specs.Tables.{State, tablesOf, processAt, namespaceAt, liftedMaps, putProcess, putNamespace, putLiftedMap}
 
 pub length-processes : (l : List ℕ) → length (tablesOf l .processes) ≡ 128
 unfolding tablesOf
@@ -28,17 +27,17 @@ pub length-namespaces : (l : List ℕ) → length (tablesOf l .namespaces) ≡ 6
 unfolding tablesOf
 length-namespaces l = length-rows namespaceOf 39 64 3456 l
 
-pub length-kernel-maps : (k : Kind) (l : List ℕ) → length (kernelMaps k (tablesOf l)) ≡ 64
+pub length-lifted-maps : (k : Kind) (l : List ℕ) → length (liftedMaps k (tablesOf l)) ≡ 64
 unfolding tablesOf
-length-kernel-maps User l = length-rows countedLines 100 64 5952 l
-length-kernel-maps Group l = length-rows countedLines 100 64 12352 l
+length-lifted-maps User l = length-rows liftedIn 101 64 5952 l
+length-lifted-maps Group l = length-rows liftedIn 101 64 12416 l
 
-state : {ps ps′ : List Process} {ns ns′ : List Namespace} {us us′ gs gs′ : List (List Line)} → ps ≡ ps′ → ns ≡ ns′ → us ≡ us′ → gs ≡ gs′
-    → _≡_ {A = State} (record { processes = ps; namespaces = ns; kernelUsers = us; kernelGroups = gs }) (record { processes = ps′; namespaces = ns′; kernelUsers = us′; kernelGroups = gs′ })
-state p q u g = λ i. record { processes = p i; namespaces = q i; kernelUsers = u i; kernelGroups = g i }
+state : {ps ps′ : List Process} {ns ns′ : List Namespace} {us us′ gs gs′ : List Lifted} → ps ≡ ps′ → ns ≡ ns′ → us ≡ us′ → gs ≡ gs′
+    → _≡_ {A = State} (record { processes = ps; namespaces = ns; liftedUsers = us; liftedGroups = gs }) (record { processes = ps′; namespaces = ns′; liftedUsers = us′; liftedGroups = gs′ })
+state p q u g = λ i. record { processes = p i; namespaces = q i; liftedUsers = u i; liftedGroups = g i }
 
 -- ---- loads
-module _ (l row : List ℕ) (i k : ℕ) (long : length l ≡ 18752) where
+module _ (l row : List ℕ) (i k : ℕ) (long : length l ≡ 18880) where
   pub process-get : (p : Process) → row ≡ part 27 k l → k ≡ i * 27 → i < 128 → p ≡ processFrom row → p ≡ processAt (tablesOf l) i
   unfolding tablesOf processAt
   process-get p read at h e =
@@ -73,20 +72,20 @@ module _ (l : List ℕ) (i : ℕ) where
   unfolding tablesOf
   namespace-out n h = sym (state refl (row-out namespaceOf 39 64 3456 l i n h) refl refl)
 
-  pub kernel-map-out : (k : Kind) (m : List Line) → 64 ≤ i → tablesOf l ≡ putKernelMap (tablesOf l) k i m
+  pub lifted-map-out : (k : Kind) (m : Lifted) → 64 ≤ i → tablesOf l ≡ putLiftedMap (tablesOf l) k i m
   unfolding tablesOf
-  kernel-map-out User m h = sym (state refl refl (row-out countedLines 100 64 5952 l i m h) refl)
-  kernel-map-out Group m h = sym (state refl refl refl (row-out countedLines 100 64 12352 l i m h))
+  lifted-map-out User m h = sym (state refl refl (row-out liftedIn 101 64 5952 l i m h) refl)
+  lifted-map-out Group m h = sym (state refl refl refl (row-out liftedIn 101 64 12416 l i m h))
 
-  module _ (l′ ws : List ℕ) (long : length l ≡ 18752) where
+  module _ (l′ ws : List ℕ) (long : length l ≡ 18880) where
     pub process-put : (p : Process) → length ws ≡ 27 → i < 128 → processOf ws ≡ p → l′ ≡ putAt l (i * 27) ws → tablesOf l′ ≡ putProcess (tablesOf l) i p
     unfolding tablesOf
     process-put p w h e q =
         rw q
         (state (row-put processOf 27 128 0 l i ws (i * 27) (omega arith) h w (omega arith) ∙ ap (set (rows processOf 27 128 0 l) i) e)
         (rows-apart namespaceOf 39 64 3456 l (i * 27) ws (inl (omega arith)))
-        (rows-apart countedLines 100 64 5952 l (i * 27) ws (inl (omega arith)))
-        (rows-apart countedLines 100 64 12352 l (i * 27) ws (inl (omega arith))))
+        (rows-apart liftedIn 101 64 5952 l (i * 27) ws (inl (omega arith)))
+        (rows-apart liftedIn 101 64 12416 l (i * 27) ws (inl (omega arith))))
 
     pub namespace-put : (n : Namespace) → length ws ≡ 39 → i < 64 → namespaceOf ws ≡ n → l′ ≡ putAt l (3456 + i * 39) ws → tablesOf l′ ≡ putNamespace (tablesOf l) i n
     unfolding tablesOf
@@ -94,27 +93,27 @@ module _ (l : List ℕ) (i : ℕ) where
         rw q
         (state (rows-apart processOf 27 128 0 l (3456 + i * 39) ws (inr (omega arith)))
         (row-put namespaceOf 39 64 3456 l i ws (3456 + i * 39) refl h w (omega arith) ∙ ap (set (rows namespaceOf 39 64 3456 l) i) e)
-        (rows-apart countedLines 100 64 5952 l (3456 + i * 39) ws (inl (omega arith)))
-        (rows-apart countedLines 100 64 12352 l (3456 + i * 39) ws (inl (omega arith))))
+        (rows-apart liftedIn 101 64 5952 l (3456 + i * 39) ws (inl (omega arith)))
+        (rows-apart liftedIn 101 64 12416 l (3456 + i * 39) ws (inl (omega arith))))
 
-    pub kernel-users-put : (k : Kind) → length ws ≡ 100 → i < 64 → k ≡ User → l′ ≡ putAt l (5952 + i * 100) ws → tablesOf l′ ≡ putKernelMap (tablesOf l) k i (countedLines ws)
+    pub lifted-users-put : (k : Kind) → length ws ≡ 101 → i < 64 → k ≡ User → l′ ≡ putAt l (5952 + i * 101) ws → tablesOf l′ ≡ putLiftedMap (tablesOf l) k i (liftedIn ws)
     unfolding tablesOf
-    kernel-users-put k w h u q =
+    lifted-users-put k w h u q =
         rw (q, u)
-        (state (rows-apart processOf 27 128 0 l (5952 + i * 100) ws (inr (omega arith)))
-        (rows-apart namespaceOf 39 64 3456 l (5952 + i * 100) ws (inr (omega arith)))
-        (row-put countedLines 100 64 5952 l i ws (5952 + i * 100) refl h w (omega arith))
-        (rows-apart countedLines 100 64 12352 l (5952 + i * 100) ws (inl (omega arith))))
+        (state (rows-apart processOf 27 128 0 l (5952 + i * 101) ws (inr (omega arith)))
+        (rows-apart namespaceOf 39 64 3456 l (5952 + i * 101) ws (inr (omega arith)))
+        (row-put liftedIn 101 64 5952 l i ws (5952 + i * 101) refl h w (omega arith))
+        (rows-apart liftedIn 101 64 12416 l (5952 + i * 101) ws (inl (omega arith))))
 
-    pub kernel-groups-put : (k : Kind) → length ws ≡ 100 → i < 64 → k ≡ Group → l′ ≡ putAt l (12352 + i * 100) ws → tablesOf l′ ≡ putKernelMap (tablesOf l) k i (countedLines ws)
+    pub lifted-groups-put : (k : Kind) → length ws ≡ 101 → i < 64 → k ≡ Group → l′ ≡ putAt l (12416 + i * 101) ws → tablesOf l′ ≡ putLiftedMap (tablesOf l) k i (liftedIn ws)
     unfolding tablesOf
-    kernel-groups-put k w h u q =
+    lifted-groups-put k w h u q =
         rw (q, u)
-        (state (rows-apart processOf 27 128 0 l (12352 + i * 100) ws (inr (omega arith)))
-        (rows-apart namespaceOf 39 64 3456 l (12352 + i * 100) ws (inr (omega arith)))
-        (rows-apart countedLines 100 64 5952 l (12352 + i * 100) ws (inr (omega arith)))
-        (row-put countedLines 100 64 12352 l i ws (12352 + i * 100) refl h w (omega arith)))
+        (state (rows-apart processOf 27 128 0 l (12416 + i * 101) ws (inr (omega arith)))
+        (rows-apart namespaceOf 39 64 3456 l (12416 + i * 101) ws (inr (omega arith)))
+        (rows-apart liftedIn 101 64 5952 l (12416 + i * 101) ws (inr (omega arith)))
+        (row-put liftedIn 101 64 12416 l i ws (12416 + i * 101) refl h w (omega arith)))
 
 pub ruleset loads = (process-get, namespace-get, process-none, namespace-none, needs)
 
-pub ruleset stores = (process-out, namespace-out, process-put, namespace-put, kernel-map-out, kernel-users-put, kernel-groups-put, needs)
+pub ruleset stores = (process-out, namespace-out, process-put, namespace-put, lifted-map-out, lifted-users-put, lifted-groups-put, needs)

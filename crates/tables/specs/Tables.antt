@@ -8,7 +8,7 @@ use Rattle.idmap.specs.declared.Line.{Line}
 use Rattle.idmap.specs.Line.{noLine}
 use Rattle.idmap.specs.Good.{noId}
 use Rattle.rows.specs.Rows.{rows}
-use Rattle.kernel_map.specs.Compose.{countedLines}
+use Rattle.lifted_map.specs.Lift.{Lifted, liftedIn}
 use Rattle.records.specs.declared.Kind.{Kind}
 use Rattle.records.specs.declared.Kind.the-variants.{User, Group}
 use Rattle.records.specs.declared.Ids.{Ids}
@@ -21,18 +21,18 @@ use Rattle.records.specs.Records.{processOf, freeProcess, namespaceOf, freeName
 pub record State : Type 0 where
   pub processes : List Process
   pub namespaces : List Namespace
-  -- the lines of the maps of each namespace once more, with kernel IDs on the parent side, so that one search translates through all levels; none
-  -- where they would be too many
-  pub kernelUsers : List (List Line)
-  pub kernelGroups : List (List Line)
+  -- the maps of each namespace once more, lifted over those above as far as their lines are not too many, so that one search translates through
+  -- several levels, most often through all
+  pub liftedUsers : List Lifted
+  pub liftedGroups : List Lifted
 
 -- the tables that the words of the lent array hold: 128 places for processes, 64 for namespaces
 unfoldable pub tablesOf : List ℕ → State
 tablesOf l = record {
   processes = rows processOf 27 128 0 l;
   namespaces = rows namespaceOf 39 64 3456 l;
-  kernelUsers = rows countedLines 100 64 5952 l;
-  kernelGroups = rows countedLines 100 64 12352 l;
+  liftedUsers = rows liftedIn 101 64 5952 l;
+  liftedGroups = rows liftedIn 101 64 12416 l;
 }
 
 -- what stands in a place. A place past the end is free
@@ -46,26 +46,29 @@ abbrev pub byKind : {A : Type 0} → Kind → A → A → A
 byKind User users groups = users
 byKind Group users groups = groups
 
-abbrev pub kernelMaps : Kind → State → List (List Line)
-kernelMaps k s = byKind k (s .kernelUsers) (s .kernelGroups)
+abbrev pub liftedMaps : Kind → State → List Lifted
+liftedMaps k s = byKind k (s .liftedUsers) (s .liftedGroups)
 
--- the kernel lines of a namespace. A place past the end has none
-unfoldable pub kernelLines : State → Kind → ℕ → List Line
-kernelLines s k i = getD (kernelMaps k s) i []
+-- no map, lifted
+abbrev pub noLift : Lifted
+noLift = record { base = 0; lines = [] }
+
+unfoldable pub liftedAt : State → Kind → ℕ → Lifted
+liftedAt s k i = getD (liftedMaps k s) i noLift
 
 -- the same tables with another list in one place
 abbrev pub withProcesses : State → List Process → State
-withProcesses s ps = record { processes = ps; namespaces = s .namespaces; kernelUsers = s .kernelUsers; kernelGroups = s .kernelGroups }
+withProcesses s ps = record { processes = ps; namespaces = s .namespaces; liftedUsers = s .liftedUsers; liftedGroups = s .liftedGroups }
 
 abbrev pub withNamespaces : State → List Namespace → State
-withNamespaces s ns = record { processes = s .processes; namespaces = ns; kernelUsers = s .kernelUsers; kernelGroups = s .kernelGroups }
+withNamespaces s ns = record { processes = s .processes; namespaces = ns; liftedUsers = s .liftedUsers; liftedGroups = s .liftedGroups }
 
-abbrev pub withKernelMaps : State → Kind → List (List Line) → State
-withKernelMaps s k ms = record {
+abbrev pub withLiftedMaps : State → Kind → List Lifted → State
+withLiftedMaps s k ms = record {
   processes = s .processes;
   namespaces = s .namespaces;
-  kernelUsers = byKind k ms (s .kernelUsers);
-  kernelGroups = byKind k (s .kernelGroups) ms;
+  liftedUsers = byKind k ms (s .liftedUsers);
+  liftedGroups = byKind k (s .liftedGroups) ms;
 }
 
 abbrev pub putProcess : State → ℕ → Process → State
@@ -74,8 +77,8 @@ putProcess s i p = withProcesses s (set (s .processes) i p)
 abbrev pub putNamespace : State → ℕ → Namespace → State
 putNamespace s i n = withNamespaces s (set (s .namespaces) i n)
 
-abbrev pub putKernelMap : State → Kind → ℕ → List Line → State
-putKernelMap s k i ls = withKernelMaps s k (set (kernelMaps k s) i ls)
+abbrev pub putLiftedMap : State → Kind → ℕ → Lifted → State
+putLiftedMap s k i m = withLiftedMaps s k (set (liftedMaps k s) i m)
 
 -- ---- document 01: the fresh start
 abbrev pub allZero : Ids
@@ -103,14 +106,17 @@ fixedMap = record { state = Written 1; lines = fixedLine ∷ replicate 4 noLine 
 abbrev pub rootNamespace : Namespace
 rootNamespace = record { live = true; parent = 0; level = 0; owner = 0; users = fixedMap; groups = fixedMap; deny = false }
 
--- it stands for itself in kernel IDs
-unfoldable pub firstKernelMaps : List (List Line)
-firstKernelMaps = set (replicate 64 []) 0 (fixedLine ∷ [])
+-- it is lifted as it stands
+abbrev pub fixedLift : Lifted
+fixedLift = record { base = 0; lines = fixedLine ∷ [] }
+
+unfoldable pub firstLiftedMaps : List Lifted
+firstLiftedMaps = set (replicate 64 noLift) 0 fixedLift
 
 unfoldable pub initialTables : State
 initialTables = record {
   processes = set (replicate 128 freeProcess) 0 firstProcess;
   namespaces = set (replicate 64 freeNamespace) 0 rootNamespace;
-  kernelUsers = firstKernelMaps;
-  kernelGroups = firstKernelMaps;
+  liftedUsers = firstLiftedMaps;
+  liftedGroups = firstLiftedMaps;
 }

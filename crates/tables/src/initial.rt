@@ -1,15 +1,14 @@
 // The tables as they are at the start.
 ghost use mathlib.Core.Path.{_≡_};
-ghost use mathlib.Core.List.{[], _∷_};
-ghost use Rattle.kernel_map.specs.Compose.{countedLines};
-ghost use Rattle.tables.specs.Tables.{tablesOf, firstProcess, fixedLine, fixedMap, rootNamespace, firstKernelMaps, initialTables, withProcesses, withNamespaces, withKernelMaps};
+ghost use Rattle.lifted_map.specs.Lift.{liftedIn};
+ghost use Rattle.tables.specs.Tables.{tablesOf, firstProcess, fixedMap, fixedLift, rootNamespace, firstLiftedMaps, initialTables, withProcesses, withNamespaces, withLiftedMaps};
 use crate::Tables;
-use crate::kernel_maps::kernel_map_put;
+use crate::lifted_maps::lifted_map_put;
 use crate::namespaces::namespace_put;
 use crate::processes::process_put;
 use capability::CapabilitySet;
 use idmap::Line;
-use kernel_map::KernelMap;
+use lifted_map::LiftedMap;
 use records::GroupList;
 use records::IdMap;
 use records::Ids;
@@ -100,25 +99,25 @@ fn fill_namespaces(t: &mut Tables)
     namespace_put(t, 0, root_namespace());
 }
 
-fn fixed_kernel_map() -> KernelMap
-    ensures { λ r. ⌜ countedLines r ≡ fixedLine ∷ [] ⌝ }
+fn fixed_lifted_map() -> LiftedMap
+    ensures { λ r. ⌜ liftedIn r ≡ fixedLift ⌝ }
 {
-    let mut map: KernelMap = [0; 100];
+    let mut map: LiftedMap = [0; 101];
     map[0] = 1;
-    map[3] = 4294967295;
+    map[4] = 4294967295;
     map
 }
 
-// No kernel map of a kind but the initial namespace's.
-fn fill_kernel_maps(t: &mut Tables, kind: Kind)
-    ensures { λ r. ⌜ tablesOf (now (t .exit)) ≡ withKernelMaps (tablesOf (now (t .entry))) kind firstKernelMaps ⌝ }
+// No lifted map of a kind but the initial namespace's.
+fn fill_lifted_maps(t: &mut Tables, kind: Kind)
+    ensures { λ r. ⌜ tablesOf (now (t .exit)) ≡ withLiftedMaps (tablesOf (now (t .entry))) kind firstLiftedMaps ⌝ }
 {
-    let none: KernelMap = [0; 100];
+    let none: LiftedMap = [0; 101];
     for i in 0..64usize {
-        kernel_map_put(t, kind, i, &none);
+        lifted_map_put(t, kind, i, &none);
     }
-    let fixed = fixed_kernel_map();
-    kernel_map_put(t, kind, 0, &fixed);
+    let fixed = fixed_lifted_map();
+    lifted_map_put(t, kind, 0, &fixed);
 }
 
 // The initial tables, whatever stood in the array.
@@ -127,6 +126,6 @@ pub fn initial(t: &mut Tables)
 {
     fill_processes(t);
     fill_namespaces(t);
-    fill_kernel_maps(t, Kind::User);
-    fill_kernel_maps(t, Kind::Group);
+    fill_lifted_maps(t, Kind::User);
+    fill_lifted_maps(t, Kind::Group);
 }

@@ -1,10 +1,10 @@
--- `tables::kernel_maps::kernel_map_put` meets its contract. Assumes nothing.
+-- `tables::lifted_maps::lifted_map_put` meets its contract. Assumes nothing.
 use Rattle.tables.proofs.Tables.{stores}
-use Rattle.tables.proofs.kernel_maps.kernel_map_put.Statement.{statement}
-use Rattle.tables.proofs.kernel_maps.kernel_map_put.Tie as tie
+use Rattle.tables.proofs.lifted_maps.lifted_map_put.Statement.{statement}
+use Rattle.tables.proofs.lifted_maps.lifted_map_put.Tie as tie
 
-pub kernel-map-put-spec : {M : Type 1} → statement M
-kernel-map-put-spec =
+pub lifted-map-put-spec : {M : Type 1} → statement M
+lifted-map-put-spec =
     tie.close (tie.spec
     (λ c. search stores)  -- returns
     (λ c. search stores)  -- enum-told
