@@ -1,5 +1,5 @@
 -- Who holds a capability, step by step, in the words of the code: each law's premises are what a place knows. Assumes nothing.
-use Prim.Native.Nat.{ℕ, zero, suc, _-_}
+use Prim.Native.Nat.{ℕ, zero, suc, _-_, _≤_, _<_}
 use mathlib.Core.Path.{_≡_, refl, sym, ap, _∙_}
 use mathlib.Core.Bool.{Bool, true, false, cond}
 use native.Mathlib.Omega.{arith}
@@ -11,6 +11,16 @@ use Rattle.records.specs.declared.Process.{Process}
 use Rattle.records.specs.declared.Namespace.{Namespace}
 use Rattle.tables.specs.Tables.{State, namespaceAt}
 use Rattle.hierarchy.specs.Walks.{heightOf, ownedBy, holdsIn, capableIn}
+
+-- ---- height
+module _ (s : State) (place : ℕ) (n : Namespace) (read : n ≡ namespaceAt s place) where
+  pub height-level : n .level < 32 → n .level ≡ heightOf s place
+  unfolding heightOf
+  height-level h = rw (← read) (omega arith)
+
+  pub height-most : 32 ≤ n .level → 32 ≡ heightOf s place
+  unfolding heightOf
+  height-most h = rw (← read) (omega arith)
 
 -- ---- the second rule
 module _ (n : Namespace) (own euid : ℕ) where
@@ -90,6 +100,8 @@ module _ (s : State) (p : Process) (place c h : ℕ) (mine : Bool) (set : mine �
           capable-end = walk-end s (p .namespace) (p .users .effective) mine k n (capableIn s p place c) (inv ∙ start) other below m read t tested
 
 pub ruleset walking = (
+  height-level,
+  height-most,
   owned-child,
   owned-other,
   walk-on,

@@ -1,12 +1,19 @@
 // Who holds a capability in a namespace: user_namespaces(7), three rules.
 ghost use mathlib.Core.Path.{_≡_};
 ghost use Rattle.tables.specs.Tables.{tablesOf};
-ghost use Rattle.hierarchy.specs.Walks.{ownedBy, capableIn};
-use super::translate::height;
+ghost use Rattle.hierarchy.specs.Walks.{heightOf, ownedBy, capableIn};
 use records::Namespace;
 use records::Process;
 use tables::Tables;
 use tables::namespaces::namespace_at;
+
+// How many steps lead from a namespace to the initial one, 32 at most.
+fn height(t: &Tables, place: u64) -> u64
+    ensures { λ r. ⌜ r ≡ heightOf (tablesOf (now (t .entry))) place ⌝ }
+{
+    let n = namespace_at(t, place as usize);
+    if n.level < 32 { n.level } else { 32 }
+}
 
 // Whether the namespace's parent is `own` and its owner `euid`.
 fn owned(n: Namespace, own: u64, euid: u32) -> bool

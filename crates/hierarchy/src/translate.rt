@@ -1,24 +1,15 @@
-// Translation of IDs between a namespace and the initial one.
+// Translation of IDs between a namespace and the initial one, by lifted maps.
 ghost use mathlib.Core.Path.{_≡_};
 ghost use Rattle.idmap.specs.Line.{linesIn};
 ghost use Rattle.tables.specs.Tables.{tablesOf};
-ghost use Rattle.hierarchy.specs.Walks.{heightOf, itself, outIn, toKernelBy, toKernel, backIn, fromKernelBy, fromKernel};
+ghost use Rattle.hierarchy.specs.Walks.{itself, outIn, toKernelBy, toKernel, backIn, fromKernelBy, fromKernel};
 use idmap::Translated;
 use idmap::lookup::lookup_back;
 use idmap::lookup::lookup_out;
 use records::Kind;
 use tables::Tables;
-use tables::kernel_maps::kernel_lines;
-use tables::namespaces::map_lines;
-use tables::namespaces::namespace_at;
-
-// How many steps lead from a namespace to the initial one, 32 at most.
-pub fn height(t: &Tables, place: u64) -> u64
-    ensures { λ r. ⌜ r ≡ heightOf (tablesOf (now (t .entry))) place ⌝ }
-{
-    let n = namespace_at(t, place as usize);
-    if n.level < 32 { n.level } else { 32 }
-}
+use tables::lifted_maps::lifted_base;
+use tables::lifted_maps::lifted_lines;
 
 // In the initial namespace each ID but 'no ID' stands for itself.
 fn same(id: u32) -> Translated
@@ -31,11 +22,11 @@ fn same(id: u32) -> Translated
     }
 }
 
-// The kernel ID of an ID, level by level.
+// The kernel ID of an ID, in 31 steps at most.
 fn up(t: &Tables, kind: Kind, place: u64, id: u32) -> Translated
-    ensures { λ r. ⌜ r ≡ outIn (tablesOf (now (t .entry))) kind (heightOf (tablesOf (now (t .entry))) place) place id ⌝ }
+    ensures { λ r. ⌜ r ≡ outIn (tablesOf (now (t .entry))) kind 31 place id ⌝ }
 {
-    let mut left = height(t, place);
+    let mut left: u64 = 31;
     let mut at = place;
     let mut x = id;
     loop {
@@ -45,38 +36,50 @@ fn up(t: &Tables, kind: Kind, place: u64, id: u32) -> Translated
         if left == 0 {
             break Translated::Unmapped;
         }
-        let found = lookup_out(map_lines(t, at as usize, kind), x);
+        let found = lookup_out(lifted_lines(t, at as usize, kind), x);
         let Translated::Id(y) = found else {
             break Translated::Unmapped;
         };
-        let n = namespace_at(t, at as usize);
         x = y;
-        at = n.parent;
+        at = lifted_base(t, at as usize, kind);
         left -= 1;
     }
 }
 
-// The kernel ID that an ID of a namespace stands for, by its kernel lines. A list of IDs reads where they stand only once.
-pub fn to_kernel_by(t: &Tables, kind: Kind, lines: &[u64], place: u64, id: u32) -> Translated
-    ensures { λ r. ⌜ r ≡ toKernelBy (tablesOf (now (t .entry))) kind (linesIn (now (lines .entry))) place id ⌝ }
+// The kernel ID that an ID of a namespace stands for, by the lines and the base of its lifted map. A list of IDs finds them only once.
+pub fn to_kernel_by(
+    t: &Tables,
+    kind: Kind,
+    lines: &[u64],
+    base: u64,
+    place: u64,
+    id: u32,
+) -> Translated
+    ensures { λ r. ⌜ r ≡ toKernelBy (tablesOf (now (t .entry))) kind (record { base = base; lines = linesIn (now (lines .entry)) }) place id ⌝ }
 {
     if place == 0 {
         return same(id);
     }
-    if 3 <= lines.len() {
-        return lookup_out(lines, id);
+    let found = lookup_out(lines, id);
+    let Translated::Id(y) = found else {
+        return Translated::Unmapped;
+    };
+    if base == 0 {
+        return same(y);
     }
-    up(t, kind, place, id)
+    up(t, kind, base, y)
 }
 
 // The kernel ID that an ID of a namespace stands for. Linux: make_kuid, make_kgid.
 pub fn to_kernel(t: &Tables, kind: Kind, place: u64, id: u32) -> Translated
     ensures { λ r. ⌜ r ≡ toKernel (tablesOf (now (t .entry))) kind place id ⌝ }
 {
-    to_kernel_by(t, kind, kernel_lines(t, place as usize, kind), place, id)
+    let lines = lifted_lines(t, place as usize, kind);
+    let base = lifted_base(t, place as usize, kind);
+    to_kernel_by(t, kind, lines, base, place, id)
 }
 
-// The ID of the namespace at `at`, `left` steps at most below the initial one, that stands for a kernel ID.
+// The ID of the namespace at `at` that stands for a kernel ID, in `left` steps at most.
 fn down(t: &Tables, kind: Kind, left: u64, at: u64, id: u32) -> Translated
     ensures { λ r. ⌜ r ≡ backIn (tablesOf (now (t .entry))) kind left at id ⌝ }
 {
@@ -86,37 +89,50 @@ fn down(t: &Tables, kind: Kind, left: u64, at: u64, id: u32) -> Translated
     if left == 0 {
         return Translated::Unmapped;
     }
-    let n = namespace_at(t, at as usize);
-    let above = down(t, kind, left - 1, n.parent, id);
+    let base = lifted_base(t, at as usize, kind);
+    let above = down(t, kind, left - 1, base, id);
     match above {
-        Translated::Id(z) => lookup_back(map_lines(t, at as usize, kind), z),
+        Translated::Id(z) => lookup_back(lifted_lines(t, at as usize, kind), z),
         Translated::Unmapped => Translated::Unmapped,
     }
 }
 
-// The ID of a namespace for a kernel ID, level by level.
-fn back_by_levels(t: &Tables, kind: Kind, place: u64, id: u32) -> Translated
-    ensures { λ r. ⌜ r ≡ backIn (tablesOf (now (t .entry))) kind (heightOf (tablesOf (now (t .entry))) place) place id ⌝ }
+// The ID of a base that stands for a kernel ID.
+fn at_base(t: &Tables, kind: Kind, base: u64, id: u32) -> Translated
+    ensures { λ r. ⌜ r ≡ backIn (tablesOf (now (t .entry))) kind 31 base id ⌝ }
 {
-    down(t, kind, height(t, place), place, id)
+    if base == 0 {
+        return same(id);
+    }
+    down(t, kind, 31, base, id)
 }
 
-// The ID of a namespace that stands for a kernel ID, by its kernel lines.
-pub fn from_kernel_by(t: &Tables, kind: Kind, lines: &[u64], place: u64, id: u32) -> Translated
-    ensures { λ r. ⌜ r ≡ fromKernelBy (tablesOf (now (t .entry))) kind (linesIn (now (lines .entry))) place id ⌝ }
+// The ID of a namespace that stands for a kernel ID, by the lines and the base of its lifted map.
+pub fn from_kernel_by(
+    t: &Tables,
+    kind: Kind,
+    lines: &[u64],
+    base: u64,
+    place: u64,
+    id: u32,
+) -> Translated
+    ensures { λ r. ⌜ r ≡ fromKernelBy (tablesOf (now (t .entry))) kind (record { base = base; lines = linesIn (now (lines .entry)) }) place id ⌝ }
 {
     if place == 0 {
         return same(id);
     }
-    if lines.len() < 3 {
-        return back_by_levels(t, kind, place, id);
+    let above = at_base(t, kind, base, id);
+    match above {
+        Translated::Id(z) => lookup_back(lines, z),
+        Translated::Unmapped => Translated::Unmapped,
     }
-    lookup_back(lines, id)
 }
 
 // The ID of a namespace that stands for a kernel ID. Linux: from_kuid, from_kgid.
 pub fn from_kernel(t: &Tables, kind: Kind, place: u64, id: u32) -> Translated
     ensures { λ r. ⌜ r ≡ fromKernel (tablesOf (now (t .entry))) kind place id ⌝ }
 {
-    from_kernel_by(t, kind, kernel_lines(t, place as usize, kind), place, id)
+    let lines = lifted_lines(t, place as usize, kind);
+    let base = lifted_base(t, place as usize, kind);
+    from_kernel_by(t, kind, lines, base, place, id)
 }

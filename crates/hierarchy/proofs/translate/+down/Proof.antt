@@ -8,8 +8,8 @@ use Rattle.hierarchy.proofs.translate.down.Kinds as down-kinds
 use Rattle.hierarchy.proofs.translate.+down.Lts-down as down-lts
 use Rattle.hierarchy.proofs.translate.same.Reads as same-reads
 use Rattle.idmap.proofs.lookup.lookup_back.Reads as lookup-back-reads
-use Rattle.tables.proofs.namespaces.map_lines.Reads as map-lines-reads
-use Rattle.tables.proofs.namespaces.namespace_at.Reads as namespace-at-reads
+use Rattle.tables.proofs.lifted_maps.lifted_base.Reads as lifted-base-reads
+use Rattle.tables.proofs.lifted_maps.lifted_lines.Reads as lifted-lines-reads
 use Rattle.hierarchy.proofs.translate.+down.{statement}
 use Rattle.hierarchy.proofs.translate.+down.Tie.{close}
 
@@ -27,12 +27,12 @@ pub +down-spec : {M : Type 1} → statement M
 +down-spec = close μ-down λ t. down-lts.spec (
   same-reads.Asked,
   same-reads.Learnt,
-  namespace-at-reads.Asked,
-  namespace-at-reads.Learnt,
+  lifted-base-reads.Asked,
+  lifted-base-reads.Learnt,
   down-below t,
   down.Post,
-  map-lines-reads.Asked,
-  map-lines-reads.Learnt,
+  lifted-lines-reads.Asked,
+  lifted-lines-reads.Learnt,
   lookup-back-reads.Asked,
   lookup-back-reads.Learnt,
 )
@@ -41,11 +41,11 @@ pub +down-spec : {M : Type 1} → statement M
     (λ c κs. search translations)  -- same-requires
     (λ c. search translations)  -- returns
     (λ c. search translations)  -- returns-2
-    (λ c κs. search translations)  -- namespace-at-requires
+    (λ c κs. search translations)  -- lifted-base-requires
     (λ c. search translations)  -- sub-down
     (λ c κs. search translations)  -- down-requires
     (λ c. search translations)  -- enum-known-above
-    (λ c κs. search translations)  -- map-lines-requires
+    (λ c κs. search translations)  -- lifted-lines-requires
     (λ c κs. search translations)  -- lookup-back-requires
     (λ c. search translations)  -- enum-told
     (λ c. search translations)  -- returns-3

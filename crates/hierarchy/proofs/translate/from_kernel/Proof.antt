@@ -6,6 +6,7 @@ use Rattle.hierarchy.proofs.translate.from_kernel.Tie as tie
 pub from-kernel-spec : {M : Type 1} → statement M
 from-kernel-spec =
     tie.close (tie.spec
-    (λ c κs. search translations)  -- kernel-lines-requires
+    (λ c κs. search translations)  -- lifted-lines-requires
+    (λ c κs. search translations)  -- lifted-base-requires
     (λ c κs. search translations)  -- from-kernel-by-requires
     (λ c. search translations))  -- returns

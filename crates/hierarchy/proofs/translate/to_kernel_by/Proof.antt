@@ -9,6 +9,10 @@ to-kernel-by-spec =
     (λ c κs. search translations)  -- same-requires
     (λ c. search translations)  -- returns
     (λ c κs. search translations)  -- lookup-out-requires
+    (λ c. search translations)  -- enum-known-found
+    (λ c. search translations)  -- enum-told
     (λ c. search translations)  -- returns-2
+    (λ c κs. search translations)  -- same-requires-2
+    (λ c. search translations)  -- returns-3
     (λ c κs. search translations)  -- up-requires
-    (λ c. search translations))  -- returns-3
+    (λ c. search translations))  -- returns-4

@@ -1,13 +1,13 @@
 -- `hierarchy::translate::up` meets its contract. A turn keeps what the rest of the way out makes of the ID. Assumes nothing.
 use mathlib.Core.Path.{_≡_}
 use Rattle.tables.specs.Tables.{tablesOf}
-use Rattle.hierarchy.specs.Walks.{heightOf, outIn}
+use Rattle.hierarchy.specs.Walks.{outIn}
 use Rattle.hierarchy.proofs.Translations.{translations}
 use Rattle.hierarchy.proofs.translate.up.Statement.{statement}
 use Rattle.hierarchy.proofs.translate.up.Tie as tie
 
 abbrev Inv-loop : tie.InvT-loop
-Inv-loop t kind place id left₀ at₀ x₀ left at x = outIn (tablesOf t) kind left at x ≡ outIn (tablesOf t) kind (heightOf (tablesOf t) place) place id
+Inv-loop t kind place id left₀ at₀ x₀ left at x = outIn (tablesOf t) kind left at x ≡ outIn (tablesOf t) kind 31 place id
 
 abbrev μ-loop : tie.MeasureT-loop
 μ-loop t kind place id left₀ at₀ x₀ left at x = left
@@ -15,14 +15,13 @@ abbrev μ-loop : tie.MeasureT-loop
 pub up-spec : {M : Type 1} → statement M
 up-spec =
     tie.close (tie.spec Inv-loop μ-loop
-    (λ c κs. search translations)  -- height-requires
     (λ c. search translations)  -- loop-holds
     (λ c κs. search translations)  -- same-requires
-    (λ c κs. search translations)  -- map-lines-requires
+    (λ c κs. search translations)  -- lifted-lines-requires
     (λ c κs. search translations)  -- lookup-out-requires
     (λ c. search translations)  -- enum-known-found
     (λ c. search translations)  -- enum-told
-    (λ c κs. search translations)  -- namespace-at-requires
+    (λ c κs. search translations)  -- lifted-base-requires
     (λ c. search translations)  -- sub-left
     (λ c. search translations)  -- loop-less
     (λ c. search translations)  -- loop-again
