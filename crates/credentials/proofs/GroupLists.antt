@@ -8,7 +8,7 @@ use native.Mathlib.Omega.{arith}
 use lib.ListN.{length, take, drop, getD, set, replicate}
 use borrow.Author.Needs.{needs}
 use borrow.Author.Tests.{lt-ltb, le-ltb}
-use Rattle.idmap.specs.Line.{linesIn}
+use Rattle.idmap.specs.declared.Line.{Line}
 use Rattle.idmap.specs.declared.Translated.{Translated}
 use Rattle.idmap.specs.declared.Translated.the-variants.{Id, Unmapped}
 use Rattle.idmap.proofs.Collecting.{allFrom, all-starts, all-ends, all-none, all-next, made-so-far}
@@ -18,7 +18,7 @@ use Rattle.records.specs.declared.GroupList.{GroupList}
 use Rattle.records.specs.declared.Process.{Process}
 use Rattle.records.specs.declared.Namespace.{Namespace}
 use Rattle.records.specs.Records.{isWritten}
-use Rattle.tables.specs.Tables.{State, tablesOf, processAt, namespaceAt, putProcess, kernelLines}
+use Rattle.tables.specs.Tables.{State, tablesOf, processAt, namespaceAt, putProcess, liftedAt}
 use Rattle.tables.specs.Find.{processNamed}
 use Rattle.tables.specs.Reply.{Outcome, done, refuse, Promise}
 use Rattle.tables.specs.declared.find.Found.{Found}
@@ -62,9 +62,9 @@ module _ (s : State) (n : ℕ) (list ids : List ℕ) where
         let so-far : _≡_ {A = GroupList} (record { count = i; ids = ids }) (groupList (take i ids)) = groups-so-far ids i long (omega arith) rest in
         rw (all-ends _ list ids i inv h, so-far)
 
-    module _ (h : i < length list) (r : Translated) (ws : List ℕ) (read : linesIn ws ≡ kernelLines s Group n) (by-lines : r ≡ toKernelBy s Group (linesIn ws) n (getD list i 0)) where
+    module _ (h : i < length list) (r : Translated) (ls : List Line) (b : ℕ) (lines : ls ≡ liftedAt s Group n .lines) (base : b ≡ liftedAt s Group n .base) (lifted : r ≡ toKernelBy s Group (record { base = b; lines = ls }) n (getD list i 0)) where
       found : r ≡ toKernel s Group n (getD list i 0)
-      found = to-own s Group ws n (getD list i 0) r read by-lines
+      found = to-own s Group ls b n (getD list i 0) r lines base lifted
 
       pub kernel-unmapped : (a : Listed) → r ≡ Unmapped → a ≡ listedOf none → a ≡ listedOf (kernelGroups s n list)
       unfolding kernelFrom kernelGroups

@@ -7,8 +7,7 @@ use native.Mathlib.Omega.{arith}
 use lib.ListN.{length, take, drop, getD, set, replicate}
 use lib.Seq.{take-all, take-suc, take-suc-set}
 use borrow.Author.Needs.{needs}
-use Rattle.idmap.specs.Line.{linesIn}
-use Rattle.idmap.specs.Lookup.{back}
+use Rattle.idmap.specs.declared.Line.{Line}
 use Rattle.idmap.specs.declared.Translated.{Translated}
 use Rattle.idmap.specs.declared.Translated.the-variants.{Id, Unmapped}
 use Rattle.records.specs.declared.Kind.{Kind}
@@ -16,13 +15,14 @@ use Rattle.records.specs.declared.Kind.the-variants.{User, Group}
 use Rattle.records.specs.declared.Ids.{Ids}
 use Rattle.records.specs.declared.GroupList.{GroupList}
 use Rattle.records.specs.declared.Process.{Process}
-use Rattle.tables.specs.Tables.{State, processAt, kernelLines}
+use Rattle.tables.specs.Tables.{State, processAt, liftedAt}
 use Rattle.tables.specs.Find.{processNamed}
 use Rattle.tables.specs.declared.find.Found.{Found}
 use Rattle.tables.specs.declared.find.Found.the-variants.{At, Nothing}
 use Rattle.tables.specs.declared.answer.Errno.the-variants.{ESRCH}
 use Rattle.tables.specs.declared.answer.Answer.the-variants.{Refused, Own}
 use Rattle.hierarchy.specs.Walks.{fromKernelBy, fromKernel}
+use Rattle.hierarchy.proofs.Translations.{from-own}
 use Rattle.credentials.specs.declared.own.OwnIds.{OwnIds}
 use Rattle.credentials.specs.Calls.{shownAs, seen, seenIds, noIds, groupList, seenGroups, ownIdsOf}
 use Rattle.credentials.proofs.GroupLists.{groups-so-far, rest-empty}
@@ -37,9 +37,8 @@ shown-none r e = rw e
 pub shown-by : (r f : Translated) (v : ℕ) → v ≡ shownAs r → r ≡ f → v ≡ shownAs f
 shown-by r f v e q = e ∙ ap shownAs q
 
-pub seen-is : (s : State) (kind : Kind) (ws : List ℕ) (n x v : ℕ) → linesIn ws ≡ kernelLines s kind n → v ≡ shownAs (fromKernelBy s kind (linesIn ws) n x) → v ≡ seen s kind n x
-unfolding fromKernel
-seen-is s kind ws n x v read e = e ∙ rw read
+pub seen-is : (s : State) (kind : Kind) (ls : List Line) (b n x v : ℕ) → ls ≡ liftedAt s kind n .lines → b ≡ liftedAt s kind n .base → v ≡ shownAs (fromKernelBy s kind (record { base = b; lines = ls }) n x) → v ≡ seen s kind n x
+seen-is s kind ls b n x v lines base e = e ∙ ap shownAs (from-own s kind ls b n x _ lines base refl)
 
 pub seen-three : (s : State) (kind : Kind) (n : ℕ) (i : Ids) (a b d : ℕ) → a ≡ seen s kind n (i .real) → b ≡ seen s kind n (i .effective)
     → d ≡ seen s kind n (i .saved) → record { real = a; effective = b; saved = d } ≡ seenIds s kind n i
@@ -59,10 +58,12 @@ module _ (s : State) (n : ℕ) where
   unfolding SeenTo
   seen-starts kernel ids = refl
 
-  pub seen-next : (kernel ids : List ℕ) (i x : ℕ) → SeenTo kernel ids i → i < 16 → length kernel ≡ 16 → length ids ≡ 16
-      → x ≡ seen s Group n (getD kernel i 0) → SeenTo kernel (set ids i x) (i + 1)
+  pub seen-next : (kernel ids : List ℕ) (i x : ℕ) (ls : List Line) (b : ℕ) → SeenTo kernel ids i → i < 16 → length kernel ≡ 16 → length ids ≡ 16
+      → ls ≡ liftedAt s Group n .lines → b ≡ liftedAt s Group n .base → x ≡ shownAs (fromKernelBy s Group (record { base = b; lines = ls }) n (getD kernel i 0))
+      → SeenTo kernel (set ids i x) (i + 1)
   unfolding SeenTo
-  seen-next kernel ids i x inv h k long e =
+  seen-next kernel ids i x ls b inv h k long lines base q =
+      let e = seen-is s Group ls b n (getD kernel i 0) x lines base q in
       rw (add-one, take-suc-set ids i x (omega arith), take-suc kernel i 0 (omega arith), map-append (seen s Group n) (take i kernel) (getD kernel i 0 ∷ []), inv, e)
 
   module _ (g : GroupList) (ids : List ℕ) (i : ℕ) (inv : SeenTo (g .ids) ids i) (b : i ≤ g .count) (room : i ≤ 16) (long : length ids ≡ 16)

@@ -18,7 +18,8 @@ use tables::answer::Answer;
 use tables::answer::Errno;
 use tables::find::Found;
 use tables::find::find_process;
-use tables::kernel_maps::kernel_lines;
+use tables::lifted_maps::lifted_base;
+use tables::lifted_maps::lifted_lines;
 use tables::namespaces::namespace_at;
 use tables::processes::process_at;
 use tables::processes::process_put;
@@ -46,11 +47,12 @@ fn kernel_groups(t: &Tables, namespace: u64, list: &[u32]) -> Listed
     requires { ⌜ length (now list) ≤ 16 ⌝ }
     ensures { λ r. ⌜ r ≡ listedOf (kernelGroups (tablesOf (now (t .entry))) «namespace» (now (list .entry))) ⌝ }
 {
-    let lines = kernel_lines(t, namespace as usize, Kind::Group);
+    let lines = lifted_lines(t, namespace as usize, Kind::Group);
+    let base = lifted_base(t, namespace as usize, Kind::Group);
     let mut ids = [0u32; 16];
     let mut i: usize = 0;
     while i < list.len() {
-        let r = to_kernel_by(t, Kind::Group, lines, namespace, list[i]);
+        let r = to_kernel_by(t, Kind::Group, lines, base, namespace, list[i]);
         let Translated::Id(x) = r else {
             return none_listed();
         };

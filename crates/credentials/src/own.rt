@@ -14,7 +14,8 @@ use tables::answer::Answer;
 use tables::answer::Errno;
 use tables::find::Found;
 use tables::find::find_process;
-use tables::kernel_maps::kernel_lines;
+use tables::lifted_maps::lifted_base;
+use tables::lifted_maps::lifted_lines;
 use tables::processes::process_at;
 
 // The answer, and the IDs beside it; where it is a refusal they are 0.
@@ -35,20 +36,21 @@ fn shown_as(r: Translated) -> u32
     }
 }
 
-// A kernel ID as a namespace sees it, by its kernel lines.
-fn seen_by(t: &Tables, kind: Kind, lines: &[u64], namespace: u64, id: u32) -> u32
-    ensures { λ r. ⌜ r ≡ shownAs (fromKernelBy (tablesOf (now (t .entry))) kind (linesIn (now (lines .entry))) «namespace» id) ⌝ }
+// A kernel ID as a namespace sees it, by the lines and the base of its lifted map.
+fn seen_by(t: &Tables, kind: Kind, lines: &[u64], base: u64, namespace: u64, id: u32) -> u32
+    ensures { λ r. ⌜ r ≡ shownAs (fromKernelBy (tablesOf (now (t .entry))) kind (record { base = base; lines = linesIn (now (lines .entry)) }) «namespace» id) ⌝ }
 {
-    shown_as(from_kernel_by(t, kind, lines, namespace, id))
+    shown_as(from_kernel_by(t, kind, lines, base, namespace, id))
 }
 
 fn seen_ids(t: &Tables, kind: Kind, namespace: u64, ids: Ids) -> Ids
     ensures { λ r. ⌜ r ≡ seenIds (tablesOf (now (t .entry))) kind «namespace» ids ⌝ }
 {
-    let lines = kernel_lines(t, namespace as usize, kind);
-    let real = seen_by(t, kind, lines, namespace, ids.real);
-    let effective = seen_by(t, kind, lines, namespace, ids.effective);
-    let saved = seen_by(t, kind, lines, namespace, ids.saved);
+    let lines = lifted_lines(t, namespace as usize, kind);
+    let base = lifted_base(t, namespace as usize, kind);
+    let real = seen_by(t, kind, lines, base, namespace, ids.real);
+    let effective = seen_by(t, kind, lines, base, namespace, ids.effective);
+    let saved = seen_by(t, kind, lines, base, namespace, ids.saved);
     Ids {
         real: real,
         effective: effective,
@@ -60,7 +62,8 @@ fn seen_ids(t: &Tables, kind: Kind, namespace: u64, ids: Ids) -> Ids
 fn seen_groups(t: &Tables, namespace: u64, groups: GroupList) -> GroupList
     ensures { λ r. ⌜ r ≡ seenGroups (tablesOf (now (t .entry))) «namespace» groups ⌝ }
 {
-    let lines = kernel_lines(t, namespace as usize, Kind::Group);
+    let lines = lifted_lines(t, namespace as usize, Kind::Group);
+    let base = lifted_base(t, namespace as usize, Kind::Group);
     let kernel = groups.ids;
     let listed = groups.count;
     let mut ids = [0u32; 16];
@@ -72,7 +75,7 @@ fn seen_groups(t: &Tables, namespace: u64, groups: GroupList) -> GroupList
                 ids: ids,
             };
         }
-        ids[i] = seen_by(t, Kind::Group, lines, namespace, kernel[i]);
+        ids[i] = seen_by(t, Kind::Group, lines, base, namespace, kernel[i]);
         i += 1;
     }
     GroupList {

@@ -20,7 +20,7 @@ use Rattle.idmap.specs.Line.{noLine, linesIn}
 use Rattle.idmap.specs.Good.{maxLines}
 use Rattle.idmap.specs.Cover.{coveredOf}
 use Rattle.idmap.specs.Text.{mapLines, mapText, padded}
-use Rattle.kernel_map.specs.Compose.{liftedOf, countedLines}
+use Rattle.lifted_map.specs.Lift.{liftedOf, liftedIn}
 use Rattle.records.specs.declared.Kind.{Kind}
 use Rattle.records.specs.declared.Kind.the-variants.{User, Group}
 use Rattle.records.specs.declared.Ids.{Ids}
@@ -34,7 +34,7 @@ use Rattle.tables.specs.declared.answer.Answer.{Answer}
 use Rattle.tables.specs.declared.answer.Answer.the-variants.{Refused, Done}
 use Rattle.tables.specs.declared.find.Found.{Found}
 use Rattle.tables.specs.declared.find.Found.the-variants.{At, Nothing}
-use Rattle.tables.specs.Tables.{State, tablesOf, processAt, namespaceAt, kernelLines, putNamespace, putKernelMap}
+use Rattle.tables.specs.Tables.{State, tablesOf, processAt, namespaceAt, liftedAt, putNamespace, putLiftedMap}
 use Rattle.tables.specs.Find.{processNamed}
 use Rattle.tables.specs.Reply.{Outcome, Promise}
 use Rattle.tables.proofs.Promises.{refuses, answers}
@@ -186,15 +186,16 @@ module _ (l text : List ℕ) (kind : Kind) (w : Process) (n : ℕ) (r : MapText)
         unfolding writeLinesTo
         lines-uncovered z = refuses EPERM l (writeLinesTo (tablesOf l) kind w n text) (sym (rw (read-lines, ← q, y, ← tgt, ← cover-is, z)))
 
-        pub lines-done : (new : Namespace) (l′ l″ ws′ kernel : List ℕ) → u ≡ true
-            → linesIn ws′ ≡ kernelLines (tablesOf l) kind (m .parent) → countedLines kernel ≡ liftedOf (linesIn ws′) (take k (r .lines))
+        pub lines-done : (new : Namespace) (l′ l″ lifted : List ℕ) (ls : List Line) (b : ℕ) → u ≡ true
+            → ls ≡ liftedAt (tablesOf l) kind (m .parent) .lines → b ≡ liftedAt (tablesOf l) kind (m .parent) .base
+            → liftedIn lifted ≡ liftedOf (record { base = b; lines = ls }) (m .parent) (take k (r .lines))
             → new ≡ withMap kind m (record { state = Written k; lines = r .lines })
-            → tablesOf l′ ≡ putNamespace (tablesOf l) n new → tablesOf l″ ≡ putKernelMap (tablesOf l′) kind n (countedLines kernel)
+            → tablesOf l′ ≡ putNamespace (tablesOf l) n new → tablesOf l″ ≡ putLiftedMap (tablesOf l′) kind n (liftedIn lifted)
             → Promise Done l l″ (writeLinesTo (tablesOf l) kind w n text)
         unfolding writeLinesTo mappedTables
-        lines-done new l′ l″ ws′ kernel z high c e p p′ =
+        lines-done new l′ l″ lifted ls b z high low c e p p′ =
             answers Done l l″ (writeLinesTo (tablesOf l) kind w n text) refl
-            (rw (read-lines, ← q, y, ← tgt, ← cover-is, z, p′, p, e, read-map, c, high))
+            (rw (read-lines, ← q, y, ← tgt, ← cover-is, z, p′, p, e, read-map, c, high, low))
 
 -- ---- write_to
 -- a promise of one outcome is one of an equal outcome

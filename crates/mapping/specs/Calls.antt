@@ -13,7 +13,7 @@ use Rattle.idmap.specs.Good.{maxLines, noId}
 use Rattle.idmap.specs.Cover.{coveredOf}
 use Rattle.idmap.specs.Text.{mapLines, padded}
 use Rattle.idmap.specs.Show.{linesText}
-use Rattle.kernel_map.specs.Compose.{liftedOf}
+use Rattle.lifted_map.specs.Lift.{liftedOf}
 use Rattle.records.specs.declared.Kind.{Kind}
 use Rattle.records.specs.declared.Kind.the-variants.{User, Group}
 use Rattle.records.specs.declared.MapState.{MapState}
@@ -22,7 +22,7 @@ use Rattle.records.specs.declared.IdMap.{IdMap}
 use Rattle.records.specs.declared.Process.{Process}
 use Rattle.records.specs.declared.Namespace.{Namespace}
 use Rattle.records.specs.Records.{idsIn, mapIn, setIdOf, isWritten, linesOf}
-use Rattle.tables.specs.Tables.{State, processAt, namespaceAt, kernelLines, putNamespace, putKernelMap}
+use Rattle.tables.specs.Tables.{State, processAt, namespaceAt, liftedAt, putNamespace, putLiftedMap}
 use Rattle.tables.specs.Find.{processNamed}
 use Rattle.tables.specs.Reply.{Reply, refused, done, bytes, Outcome, refuse, onFound, when, unless}
 use Rattle.mapping.specs.declared.setgroups.Setting.{Setting}
@@ -72,10 +72,10 @@ abbrev pub thenLines : {A : Type 0} → Option (List Line) → A → (List Line 
 thenLines none other next = other
 thenLines (some ls) other next = next ls
 
--- what a write stores: the map, and its kernel lines, by those of the namespace above
+-- what a write stores: the map, and the same lifted over the lifted map of the parent
 unfoldable pub mappedTables : State → Kind → ℕ → List Line → State
 mappedTables s kind n ls =
-    putKernelMap (putNamespace s n (withMap kind (namespaceAt s n) (writtenMap ls))) kind n (liftedOf (kernelLines s kind (namespaceAt s n .parent)) ls)
+    putLiftedMap (putNamespace s n (withMap kind (namespaceAt s n) (writtenMap ls))) kind n (liftedOf (liftedAt s kind (namespaceAt s n .parent)) (namespaceAt s n .parent) ls)
 
 -- the lines of the text, the writer's right to them, and their cover; then the map is stored
 unfoldable pub writeLinesTo : State → Kind → Process → ℕ → List ℕ → Outcome

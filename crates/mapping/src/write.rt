@@ -13,7 +13,7 @@ use idmap::Translated;
 use idmap::cover::covered;
 use idmap::text::Parsed;
 use idmap::text::read_map;
-use kernel_map::compose::compose;
+use lifted_map::lift::lift;
 use records::IdMap;
 use records::Kind;
 use records::MapState;
@@ -28,8 +28,9 @@ use tables::answer::Answer;
 use tables::answer::Errno;
 use tables::find::Found;
 use tables::find::find_process;
-use tables::kernel_maps::kernel_lines;
-use tables::kernel_maps::kernel_map_put;
+use tables::lifted_maps::lifted_base;
+use tables::lifted_maps::lifted_lines;
+use tables::lifted_maps::lifted_map_put;
 use tables::namespaces::map_lines;
 use tables::namespaces::namespace_at;
 use tables::namespaces::namespace_put;
@@ -181,10 +182,11 @@ fn write_lines(t: &mut Tables, kind: Kind, w: Process, n: u64, text: &[u8]) -> A
             state: MapState::Written(count),
             lines: lines,
         };
-        let above = kernel_lines(t, target.parent as usize, kind);
-        let kernel = compose(above, lines, count);
+        let above = lifted_lines(t, target.parent as usize, kind);
+        let base = lifted_base(t, target.parent as usize, kind);
+        let lifted = lift(above, base, target.parent, lines, count);
         namespace_put(t, n as usize, with_map(kind, target, map));
-        kernel_map_put(t, kind, n as usize, &kernel);
+        lifted_map_put(t, kind, n as usize, &lifted);
         Answer::Done
     } else {
         Answer::Refused(Errno::EPERM)

@@ -6,7 +6,8 @@ use Rattle.credentials.proofs.own.seen_ids.Tie as tie
 pub seen-ids-spec : {M : Type 1} → statement M
 seen-ids-spec =
     tie.close (tie.spec
-    (λ c κs. search showing)  -- kernel-lines-requires
+    (λ c κs. search showing)  -- lifted-lines-requires
+    (λ c κs. search showing)  -- lifted-base-requires
     (λ c κs. search showing)  -- seen-by-requires
     (λ c κs. search showing)  -- seen-by-requires-2
     (λ c κs. search showing)  -- seen-by-requires-3
