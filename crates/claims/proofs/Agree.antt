@@ -8,25 +8,30 @@ use lib.Dec.{eqb}
 use lib.ListN.{length, length-set}
 use borrow.Author.Tests.{eqb-true}
 use Rattle.idmap.specs.declared.Line.{Line}
+use Rattle.lifted_map.specs.Lift.{Lifted}
 use Rattle.records.specs.declared.Kind.{Kind}
 use Rattle.records.specs.declared.Kind.the-variants.{User, Group}
 use Rattle.records.specs.declared.Process.{Process}
 use Rattle.records.specs.declared.Namespace.{Namespace}
+use Rattle.records.specs.declared.MapState.{MapState}
+use Rattle.records.specs.declared.MapState.the-variants.{Unwritten, Written}
+use Rattle.records.specs.declared.IdMap.{IdMap}
 use Rattle.records.specs.Records.{mapIn}
+use Rattle.records.specs.Records.{linesOf as mapLinesOf}
 use Rattle.tables.specs.declared.find.Found.the-variants.{At}
-use Rattle.tables.specs.Tables.{State, processAt, namespaceAt, kernelMaps, kernelLines, putProcess, putNamespace, putKernelMap}
+use Rattle.tables.specs.Tables.{State, processAt, namespaceAt, liftedMaps, liftedAt, putProcess, putNamespace, putLiftedMap}
 use Rattle.tables.specs.Find.{processNamed}
 use Rattle.prelude.proofs.Tests.{by-test}
 use Rattle.claims.specs.Events.{Event}
-use Rattle.claims.specs.Words.{Held, isProcess, placeOf, heldOf, sameKind}
+use Rattle.claims.specs.Words.{Held, isProcess, placeOf, orNone, heldOf, sameKind}
 use Rattle.claims.specs.Agreement.{heldIn, writtenIn, Agrees, Agreed}
-use Rattle.claims.proofs.Stores.{cond-ap, read-process, read-namespace, read-kernel, named}
+use Rattle.claims.proofs.Stores.{cond-ap, read-process, read-namespace, read-lifted, named}
 
 -- where a test picks between what is equal, it does not matter
 pub picked-same : {A : Type 0} (f : ℕ → A) (i q : ℕ) (x : A) → x ≡ f q → cond (eqb i q) x (f i) ≡ f i
 picked-same f i q x e = by-test (eqb i q) (λ t. rw t (e ∙ ap f (sym (eqb-true i q t)))) (λ t. rw t)
 
-module _ (s : State) (isP isN : ℕ → Bool) (place up level : ℕ → ℕ) (maps : Kind → ℕ → Option (List Line)) (kernel : Kind → ℕ → List Line) (carries : Kind → ℕ → Held) (a : Agrees s isP isN place up level maps kernel carries) where
+module _ (s : State) (isP isN : ℕ → Bool) (place up level : ℕ → ℕ) (maps : Kind → ℕ → Option (List Line)) (lifted : Kind → ℕ → Lifted) (carries : Kind → ℕ → Held) (a : Agrees s isP isN place up level maps lifted carries) where
   -- process p is stored at place q
   module _ (q : ℕ) (p : Process) (h : q < length (s .processes)) where
     after-process : {A : Type 0} (f : Process → A) (g : ℕ → A) (i : ℕ) → f (processAt s i) ≡ g (suc i) → f (processAt (putProcess s q p) i) ≡ cond (eqb i q) (f p) (g (suc i))
@@ -36,12 +41,12 @@ module _ (s : State) (isP isN : ℕ → Bool) (place up level : ℕ → ℕ) (ma
         → ((i : ℕ) → cond (eqb i q) (p .live) (isP (suc i)) ≡ isP′ (suc i))
         → ((i : ℕ) → cond (eqb i q) (p .namespace) (place (suc i)) ≡ place′ (suc i))
         → ((k : Kind) (i : ℕ) → cond (eqb i q) (heldIn k p) (carries k (suc i)) ≡ carries′ k (suc i))
-        → Agrees (putProcess s q p) isP′ isN place′ up level maps kernel carries′
-    unfolding namespaceAt kernelLines
+        → Agrees (putProcess s q p) isP′ isN place′ up level maps lifted carries′
+    unfolding namespaceAt liftedAt
     stores-process isP′ place′ carries′ e f g = record {
       process-places = simp length-set (a .process-places);
       namespace-places = a .namespace-places;
-      kernel-places = a .kernel-places;
+      lifted-places = a .lifted-places;
       process-live = λ i. after-process (λ (r : Process). r .live) isP i (a .process-live i) ∙ e i;
       process-place = λ i. after-process (λ (r : Process). r .namespace) place i (a .process-place i) ∙ f i;
       process-ids = λ k i. after-process (heldIn k) (carries k) i (a .process-ids k i) ∙ g k i;
@@ -49,11 +54,11 @@ module _ (s : State) (isP isN : ℕ → Bool) (place up level : ℕ → ℕ) (ma
       namespace-parent = a .namespace-parent;
       namespace-level = a .namespace-level;
       namespace-map = a .namespace-map;
-      namespace-kernel = a .namespace-kernel;
+      namespace-lifted = a .namespace-lifted;
     }
 
     -- one that is as before in what a history tells
-    pub keeps-process : p .live ≡ processAt s q .live → p .namespace ≡ processAt s q .namespace → ((k : Kind) → heldIn k p ≡ heldIn k (processAt s q)) → Agrees (putProcess s q p) isP isN place up level maps kernel carries
+    pub keeps-process : p .live ≡ processAt s q .live → p .namespace ≡ processAt s q .namespace → ((k : Kind) → heldIn k p ≡ heldIn k (processAt s q)) → Agrees (putProcess s q p) isP isN place up level maps lifted carries
     keeps-process e f g =
         stores-process isP place carries
         (λ i. picked-same (λ (j : ℕ). isP (suc j)) i q (p .live) (e ∙ a .process-live q))
@@ -70,12 +75,12 @@ module _ (s : State) (isP isN : ℕ → Bool) (place up level : ℕ → ℕ) (ma
         → ((i : ℕ) → cond (eqb i q) (n .parent) (up i) ≡ up′ i)
         → ((i : ℕ) → cond (eqb i q) (n .level) (level i) ≡ level′ i)
         → ((k : Kind) (i : ℕ) → cond (eqb i q) (writtenIn (mapIn k n)) (maps k i) ≡ maps′ k i)
-        → Agrees (putNamespace s q n) isP isN′ place up′ level′ maps′ kernel carries
-    unfolding processAt kernelLines
+        → Agrees (putNamespace s q n) isP isN′ place up′ level′ maps′ lifted carries
+    unfolding processAt liftedAt
     stores-namespace isN′ up′ level′ maps′ e f g m = record {
       process-places = a .process-places;
       namespace-places = simp length-set (a .namespace-places);
-      kernel-places = a .kernel-places;
+      lifted-places = a .lifted-places;
       process-live = a .process-live;
       process-place = a .process-place;
       process-ids = a .process-ids;
@@ -83,31 +88,31 @@ module _ (s : State) (isP isN : ℕ → Bool) (place up level : ℕ → ℕ) (ma
       namespace-parent = λ i. after-namespace (λ (r : Namespace). r .parent) up i (a .namespace-parent i) ∙ f i;
       namespace-level = λ i. after-namespace (λ (r : Namespace). r .level) level i (a .namespace-level i) ∙ g i;
       namespace-map = λ k i. after-namespace (λ (r : Namespace). writtenIn (mapIn k r)) (maps k) i (a .namespace-map k i) ∙ m k i;
-      namespace-kernel = a .namespace-kernel;
+      namespace-lifted = a .namespace-lifted;
     }
 
-  -- kernel lines m of kind j are stored at place q
-  module _ (j : Kind) (q : ℕ) (m : List Line) (h : q < length (kernelMaps j s)) (kernel′ : Kind → ℕ → List Line)
-      (e : (k : Kind) (i : ℕ) → cond (sameKind k j && eqb i q) m (kernel k i) ≡ kernel′ k i) where
-    kernel-after : (k : Kind) (i : ℕ) → kernelLines (putKernelMap s j q m) k i ≡ kernel′ k i
-    kernel-after k i =
-        read-kernel s j q m k i h ∙ rw (a .namespace-kernel k i) (e k i)
+  -- lifted map m of kind j is stored at place q
+  module _ (j : Kind) (q : ℕ) (m : Lifted) (h : q < length (liftedMaps j s)) (lifted′ : Kind → ℕ → Lifted)
+      (e : (k : Kind) (i : ℕ) → cond (sameKind k j && eqb i q) m (lifted k i) ≡ lifted′ k i) where
+    lifted-after : (k : Kind) (i : ℕ) → liftedAt (putLiftedMap s j q m) k i ≡ lifted′ k i
+    lifted-after k i =
+        read-lifted s j q m k i h ∙ rw (a .namespace-lifted k i) (e k i)
 
-    length-after : (k : Kind) → length (kernelMaps k (putKernelMap s j q m)) ≡ length (kernelMaps k s)
+    length-after : (k : Kind) → length (liftedMaps k (putLiftedMap s j q m)) ≡ length (liftedMaps k s)
     length-after k = by-kinds k j
       where
-        by-kinds : (k j : Kind) → length (kernelMaps k (putKernelMap s j q m)) ≡ length (kernelMaps k s)
-        by-kinds User User = length-set (s .kernelUsers) q m
+        by-kinds : (k j : Kind) → length (liftedMaps k (putLiftedMap s j q m)) ≡ length (liftedMaps k s)
+        by-kinds User User = length-set (s .liftedUsers) q m
         by-kinds User Group = refl
         by-kinds Group User = refl
-        by-kinds Group Group = length-set (s .kernelGroups) q m
+        by-kinds Group Group = length-set (s .liftedGroups) q m
 
-    pub stores-kernel : Agrees (putKernelMap s j q m) isP isN place up level maps kernel′ carries
+    pub stores-lifted : Agrees (putLiftedMap s j q m) isP isN place up level maps lifted′ carries
     unfolding processAt namespaceAt
-    stores-kernel = record {
+    stores-lifted = record {
       process-places = a .process-places;
       namespace-places = a .namespace-places;
-      kernel-places = λ k. length-after k ∙ a .kernel-places k;
+      lifted-places = λ k. length-after k ∙ a .lifted-places k;
       process-live = a .process-live;
       process-place = a .process-place;
       process-ids = a .process-ids;
@@ -115,8 +120,16 @@ module _ (s : State) (isP isN : ℕ → Bool) (place up level : ℕ → ℕ) (ma
       namespace-parent = a .namespace-parent;
       namespace-level = a .namespace-level;
       namespace-map = a .namespace-map;
-      namespace-kernel = kernel-after;
+      namespace-lifted = lifted-after;
     }
+
+-- ---- a map's record has the lines of its history
+pub lines-of : (m : IdMap) → orNone (writtenIn m) ≡ mapLinesOf m
+lines-of m = by-state (m .state) (m .lines)
+  where
+    by-state : (t : MapState) (ls : List Line) → orNone (Rattle.claims.specs.Agreement.linesIf t ls) ≡ Rattle.records.specs.Records.linesIf t ls
+    by-state Unwritten ls = refl
+    by-state (Written n) ls = refl
 
 -- ---- the caller of a call
 module _ (s : State) (h : List Event) (a : Agreed s h) (c i : ℕ) (e : processNamed s c ≡ At i) where

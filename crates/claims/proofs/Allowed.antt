@@ -36,10 +36,11 @@ pub record Joins (h : List Event) (c n : ℕ) : Type 0 where
   pub target : isNamespace h n ≡ true
   pub inward : IsUnder h (placeOf h c) n
 
--- a map that was not written is
+-- a map that was not written is, below one that was
 pub record Maps (h : List Event) (k : Kind) (q : ℕ) : Type 0 where
   pub process : isProcess h q ≡ true
   pub unwritten : mapOf k h (placeOf h q) ≡ none
+  pub parent-written : mapOf k h (parentOf h (placeOf h q)) ≡ none → ⊥
 
 -- an ID that was given is left as it is, or stands for one
 pub record Chosen (h : List Event) (k : Kind) (n x old : ℕ) : Type 0 where

@@ -21,7 +21,7 @@ use Rattle.claims.specs.Agreement.{Agreed}
 use Rattle.claims.specs.Bounds.{HoldsCapability, member, inherited, owner, Bounds}
 use Rattle.claims.proofs.Allowed.{SoundAt, sound}
 use Rattle.claims.proofs.Stores.{process-in-range, namespace-in-range}
-use Rattle.claims.proofs.Translating.{once}
+use Rattle.claims.proofs.Translating.{lifts}
 use Rattle.claims.proofs.Theorem.{reached, by-history}
 
 module _ (s : State) (h : List Event) (a : Agreed s h) (d : SoundAt h) where
@@ -124,8 +124,8 @@ bounds rs f =
     let a = r .agree in
     record {
       walk = λ i n c t u. capable-rules s h a d (processAt s i) c n u;
-      out = λ k n x y small. by-history s h a d (once h (r .valid)) k Out n x small y;
-      back = λ k n y x small. by-history s h a d (once h (r .valid)) k Back n y small x;
+      out = λ k n x y small. by-history s h a d (lifts h (r .valid)) k Out n x small y;
+      back = λ k n y x small. by-history s h a d (lifts h (r .valid)) k Back n y small x;
       process-in-range = λ i t. rw (a .process-places) at (process-in-range s i t);
       namespace-in-range = λ n t. rw (a .namespace-places) at (namespace-in-range s n t);
       place-live = λ i t.

@@ -129,6 +129,7 @@ module _ (s : State) (P : Outcome → Type 0) (no : (e : ℕ) → Has e refusalN
 
   pub write-map-case : (k : Kind) (c name : ℕ) (text : List ℕ)
       → ((p : ℕ) (ls : List Line) → processNamed s name ≡ At p → isWritten (mapIn k (namespaceAt s (processAt s p .namespace)) .state) ≡ false → mapLines text ≡ some ls
+      → allCovered (linesOf (mapIn k (namespaceAt s (namespaceAt s (processAt s p .namespace) .parent)))) ls ≡ true
       → P (record { reply = done; tables = mappedTables s k (processAt s p .namespace) ls }))
       → P (writeMapOf s k c name text)
   unfolding writeMapOf writeMapTo writeLinesTo
@@ -146,7 +147,7 @@ module _ (s : State) (P : Outcome → Type 0) (no : (e : ℕ) → Has e refusalN
       lines-case P (mapLines text) (no 22 is-22) (λ ls m.
       test-case P (mayMap s k (processAt s w) n ls)
       (λ t.
-      test-case P (allCovered (linesOf (mapIn k (namespaceAt s (namespaceAt s n .parent)))) ls) (λ t. f p ls g v m) (λ t. no 1 is-1))
+      test-case P (allCovered (linesOf (mapIn k (namespaceAt s (namespaceAt s n .parent)))) ls) (λ u. f p ls g v m u) (λ u. no 1 is-1))
       (λ t. no 1 is-1)))
       (λ t. no 1 is-1)))))
       (λ t. no 1 is-1))))

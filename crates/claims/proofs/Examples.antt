@@ -13,8 +13,8 @@ use Rattle.idmap.specs.Cover.{coveredIn, coveredOf}
 use Rattle.idmap.specs.Text.{pieces, filled, consOf, allOf, allDigits, decimal, numberOf, numbersOf, threeOf, lineOf, textLines, checked, mapLines}
 use Rattle.idmap.specs.Text.{padded}
 use Rattle.idmap.specs.Show.{shown, numberText, lineColumns, lineText, linesText}
-use Rattle.kernel_map.specs.Compose.{commonOf, piecesOf, withIds, composedOf, liftedOf}
-use Rattle.tables.specs.Tables.{processAt, namespaceAt, kernelLines, firstKernelMaps, initialTables}
+use Rattle.lifted_map.specs.Lift.{commonOf, piecesOf, withIds, composedOf, liftedOf}
+use Rattle.tables.specs.Tables.{processAt, namespaceAt, liftedAt, firstLiftedMaps, initialTables}
 use Rattle.tables.specs.Find.{processNamed, namespaceNamed, freeFrom, freeProcessPlace, freeNamespacePlace}
 use Rattle.hierarchy.specs.Walks.{heightOf, outIn, toKernelBy, toKernel, backIn, fromKernelBy, fromKernel, ownedBy, holdsIn, capableIn}
 use Rattle.process.specs.Calls.{forkOf, knowsItself, below, entered, cloneOf, unshareOf, setnsOf}
@@ -54,7 +54,7 @@ happened-so : (events (history entering) ≡ entered-events) × (events (history
 unfolding fitsAt putAt holds out reachOf fitsOf boundedOf apartSide apartOf allApart goodOf coveredIn coveredOf commonOf piecesOf withIds composedOf liftedOf
     pieces filled consOf allOf allDigits decimal numberOf numbersOf threeOf lineOf textLines checked mapLines padded
     shown numberText lineColumns lineText linesText
-    processAt namespaceAt kernelLines firstKernelMaps initialTables processNamed namespaceNamed freeFrom freeProcessPlace freeNamespacePlace
+    processAt namespaceAt liftedAt firstLiftedMaps initialTables processNamed namespaceNamed freeFrom freeProcessPlace freeNamespacePlace
     heightOf outIn toKernelBy toKernel backIn fromKernelBy fromKernel ownedBy holdsIn capableIn
     forkOf knowsItself below entered unshareOf
     isNear singleLine mayMap allCovered withMap mappedTables writeLinesTo writeMapTo writeMapOf

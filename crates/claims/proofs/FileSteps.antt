@@ -1,38 +1,42 @@
 -- The writes of the map files and of the setgroups file: what each leaves agrees with its history, and it was allowed. Assumes nothing.
-use Prim.Native.Nat.{ℕ, _-_}
+use Prim.Native.Nat.{ℕ, zero, suc, _-_, _<_}
 use mathlib.Core.Path.{_≡_, refl, sym, ap, _∙_}
 use mathlib.Core.Bool.{Bool, true, false, cond, _&&_, true≢false}
-use mathlib.Core.List.{List}
+use mathlib.Core.List.{List, [], _∷_}
 use mathlib.Core.Option.{Option, none, some}
 use native.Mathlib.Omega.{arith}
-use lib.Dec.{eqb}
+use lib.Dec.{eqb, leb}
 use lib.ListN.{length, replicate}
 use lib.Seq.{take-append-seam}
+use borrow.Author.Tests.{leb-true, le-ltb, ne-eqb}
 use Rattle.idmap.specs.declared.Line.{Line}
-use Rattle.idmap.specs.Line.{noLine}
-use Rattle.idmap.specs.Good.{maxLines}
-use Rattle.idmap.specs.Text.{mapLines, padded}
-use Rattle.kernel_map.specs.Compose.{liftedOf}
+use Rattle.idmap.specs.Line.{less, more, noLine}
+use Rattle.idmap.specs.Lookup.{reachOf}
+use Rattle.idmap.specs.Good.{maxLines, goodOf}
+use Rattle.idmap.specs.Cover.{coveredIn, coveredOf}
+use Rattle.idmap.specs.Text.{textLines, checked, mapLines, padded}
+use Rattle.idmap.proofs.Goodness.{good-first}
+use Rattle.lifted_map.specs.Lift.{liftedOf}
 use Rattle.records.specs.declared.Kind.{Kind}
 use Rattle.records.specs.declared.Kind.the-variants.{User, Group}
 use Rattle.records.specs.declared.Namespace.{Namespace}
 use Rattle.records.specs.declared.MapState.{MapState}
 use Rattle.records.specs.declared.MapState.the-variants.{Unwritten, Written}
 use Rattle.records.specs.declared.IdMap.{IdMap}
-use Rattle.records.specs.Records.{mapIn, isWritten}
+use Rattle.records.specs.Records.{mapIn, isWritten, linesOf}
 use Rattle.tables.specs.declared.find.Found.the-variants.{At}
-use Rattle.tables.specs.Tables.{State, processAt, namespaceAt, kernelLines, putNamespace}
+use Rattle.tables.specs.Tables.{State, processAt, namespaceAt, liftedAt, putNamespace}
 use Rattle.tables.specs.Find.{processNamed}
-use Rattle.mapping.specs.Calls.{writtenMap, withMap, mappedTables, writeMapOf, withDeny, writeSetgroupsOf}
+use Rattle.mapping.specs.Calls.{allCovered, writtenMap, withMap, mappedTables, writeMapOf, withDeny, writeSetgroupsOf}
 use Rattle.calls.specs.declared.Call.the-variants.{WriteMap, WriteSetgroups}
 use Rattle.claims.specs.Events.{Event, other, mapped}
-use Rattle.claims.specs.Words.{isProcess, isNamespace, placeOf, parentOf, levelOf, mapOf, kernelOf, liftedBy, heldOf, sameKind}
+use Rattle.claims.specs.Words.{isProcess, isNamespace, placeOf, parentOf, levelOf, mapOf, orNone, liftedBy, liftOf, heldOf, sameKind}
 use Rattle.claims.specs.Agreement.{linesIf, writtenIn, Agreed}
 use Rattle.claims.proofs.Allowed.{SoundAt}
 use Rattle.claims.proofs.Stores.{namespace-in-range}
-use Rattle.claims.proofs.Agree.{picked-same, stores-namespace, stores-kernel, caller-live, caller-place}
+use Rattle.claims.proofs.Agree.{picked-same, stores-namespace, stores-lifted, lines-of, caller-live, caller-place}
 use Rattle.claims.proofs.Kept.{same-kind}
-use Rattle.prelude.proofs.Tests.{by-test, and-left}
+use Rattle.prelude.proofs.Tests.{by-test, and-left, and-right}
 use Rattle.claims.proofs.Steps.{Next, nothing-happened, After}
 use Rattle.claims.proofs.Cases.{write-map-case, write-setgroups-case}
 
@@ -57,10 +61,44 @@ unfolding withDeny
 deny-map User n b = refl
 deny-map Group n b = refl
 
+no-some : {ls : List Line} → none ≡ some ls → ⊥
+no-some e = let z : _≡_ {A = ℕ} 0 1 = cc in omega arith
+
+first-covered : (l : Line) (ls : List Line) → allCovered [] (l ∷ ls) ≡ true → coveredOf [] (l .parent) (l .count) ≡ true
+unfolding allCovered
+first-covered l ls c = and-left (coveredOf [] (l .parent) (l .count)) (allCovered [] ls) c
+
+uncovered : (start count : ℕ) → 0 < count → coveredOf [] start count ≡ true → ⊥
+unfolding coveredOf coveredIn reachOf
+uncovered start zero h c = omega arith
+uncovered start (suc count) h c = true≢false (sym c ∙ rw (ne-eqb (suc count) 0 (λ e. omega arith), le-ltb (less (more start (suc count - 1)) start) 0 (omega arith)))
+
 -- a map that is written with lines has them
 written-lines : (ls : List Line) → writtenIn (writtenMap ls) ≡ some ls
 unfolding padded
 written-lines ls = ap some (take-append-seam ls (replicate (maxLines - length ls) noLine))
+
+-- the lines of a text are some, and good
+lines-checked : (o : Option (List Line)) (ls : List Line) → checked o ≡ some ls → (0 < length ls) × (goodOf ls ≡ true)
+unfolding checked
+lines-checked none ls e = absurd (no-some e)
+lines-checked (some ms) ls e =
+    by-test (leb 1 (length ms) && (leb (length ms) maxLines && goodOf ms))
+    (λ t.
+    let q : ms ≡ ls = let r : some ms ≡ some ls = sym (rw t) ∙ e in cc in
+    let h = and-left (leb 1 (length ms)) (leb (length ms) maxLines && goodOf ms) t in
+    let g = and-right (leb (length ms) maxLines) (goodOf ms) (and-right (leb 1 (length ms)) (leb (length ms) maxLines && goodOf ms) t) in
+    rw (← q) (leb-true 1 (length ms) h, g))
+    (λ t. absurd (no-some (sym (rw t) ∙ e)))
+
+lines-written : (text : List ℕ) (ls : List Line) → mapLines text ≡ some ls → (0 < length ls) × (goodOf ls ≡ true)
+unfolding mapLines
+lines-written text ls e = lines-checked (textLines text) ls e
+
+-- over no lines nothing is covered
+covered-above : (ls : List Line) → (0 < length ls) × (goodOf ls ≡ true) → allCovered [] ls ≡ true → ⊥
+covered-above [] h c = omega arith
+covered-above (l ∷ ls) h c = let b = good-first l ls (h .1) in uncovered (l .parent) (l .count) (b .some) (first-covered l ls c)
 
 unwritten-is : (m : IdMap) → isWritten (m .state) ≡ false → writtenIn m ≡ none
 unwritten-is m e = by-state (m .state) e
@@ -87,39 +125,51 @@ module _ (s : State) (h : List Event) (a : Agreed s h) (d : SoundAt h) (text lis
     maps-after User Group ls m i = picked-same (mapOf Group h) i (processAt s p .namespace) _ (a .namespace-map Group (processAt s p .namespace))
     maps-after Group User ls m i = picked-same (mapOf User h) i (processAt s p .namespace) _ (a .namespace-map User (processAt s p .namespace))
 
-    -- the kernel lines alike
-    kernel-after : (k j : Kind) (ls : List Line) → mapLines text ≡ some ls → (i : ℕ)
-        → cond (sameKind k j && eqb i (processAt s p .namespace)) (liftedOf (kernelLines s j (namespaceAt s (processAt s p .namespace) .parent)) ls) (kernelOf k h i)
-        ≡ cond (sameKind k j && eqb i (placeOf h name)) (liftedBy (kernelOf k h (parentOf h (placeOf h name))) (mapLines text)) (kernelOf k h i)
-    kernel-after k j ls m i =
+    -- the lifted maps alike
+    lifted-after : (k j : Kind) (ls : List Line) → mapLines text ≡ some ls → (i : ℕ)
+        → cond (sameKind k j && eqb i (processAt s p .namespace)) (liftedOf (liftedAt s j (namespaceAt s (processAt s p .namespace) .parent)) (namespaceAt s (processAt s p .namespace) .parent) ls) (liftOf k h i)
+        ≡ cond (sameKind k j && eqb i (placeOf h name)) (liftedBy (liftOf k h (parentOf h (placeOf h name))) (parentOf h (placeOf h name)) (mapLines text)) (liftOf k h i)
+    lifted-after k j ls m i =
         by-test (sameKind k j && eqb i (placeOf h name))
         (λ t.
-        let q : kernelLines s j (namespaceAt s (processAt s p .namespace) .parent) ≡ kernelOf k h (parentOf h (placeOf h name)) =
-        a .namespace-kernel j (namespaceAt s (processAt s p .namespace) .parent)
-        ∙ ap (kernelOf j h) (a .namespace-parent (processAt s p .namespace) ∙ ap (parentOf h) (caller-place s h a name p e))
-        ∙ ap (λ (x : Kind). kernelOf x h (parentOf h (placeOf h name))) (sym (same-kind k j (and-left (sameKind k j) (eqb i (placeOf h name)) t))) in
-        let r : liftedOf (kernelLines s j (namespaceAt s (processAt s p .namespace) .parent)) ls ≡ liftedBy (kernelOf k h (parentOf h (placeOf h name))) (mapLines text) =
-        ap (λ (above : List Line). liftedOf above ls) q ∙ rw m in
+        let u : namespaceAt s (processAt s p .namespace) .parent ≡ parentOf h (placeOf h name) = a .namespace-parent (processAt s p .namespace) ∙ ap (parentOf h) (caller-place s h a name p e) in
+        let q : liftedAt s j (namespaceAt s (processAt s p .namespace) .parent) ≡ liftOf k h (parentOf h (placeOf h name)) =
+        a .namespace-lifted j (namespaceAt s (processAt s p .namespace) .parent)
+        ∙ ap (liftOf j h) u
+        ∙ ap (λ (x : Kind). liftOf x h (parentOf h (placeOf h name))) (sym (same-kind k j (and-left (sameKind k j) (eqb i (placeOf h name)) t))) in
+        let r : liftedOf (liftedAt s j (namespaceAt s (processAt s p .namespace) .parent)) (namespaceAt s (processAt s p .namespace) .parent) ls ≡ liftedBy (liftOf k h (parentOf h (placeOf h name))) (parentOf h (placeOf h name)) (mapLines text) =
+        (λ d. liftedOf (q d) (u d) ls) ∙ rw m in
         rw (r, caller-place s h a name p e, t))
         (λ t. rw (caller-place s h a name p e, t))
 
+    -- lines that are covered have a map above
+    parent-written : (k : Kind) (ls : List Line) → mapLines text ≡ some ls → allCovered (linesOf (mapIn k (namespaceAt s (namespaceAt s (processAt s p .namespace) .parent)))) ls ≡ true
+        → mapOf k h (parentOf h (placeOf h name)) ≡ none → ⊥
+    parent-written k ls m c q =
+        let u : namespaceAt s (processAt s p .namespace) .parent ≡ parentOf h (placeOf h name) = a .namespace-parent (processAt s p .namespace) ∙ ap (parentOf h) (caller-place s h a name p e) in
+        let none-above : linesOf (mapIn k (namespaceAt s (namespaceAt s (processAt s p .namespace) .parent))) ≡ [] =
+        sym (lines-of (mapIn k (namespaceAt s (namespaceAt s (processAt s p .namespace) .parent)))) ∙ ap orNone (a .namespace-map k (namespaceAt s (processAt s p .namespace) .parent) ∙ ap (mapOf k h) u ∙ q) in
+        covered-above ls (lines-written text ls m) (rw none-above at c)
+
     mapped-next : (k : Kind) (ls : List Line) → mapLines text ≡ some ls → isWritten (mapIn k (namespaceAt s (processAt s p .namespace)) .state) ≡ false
+        → allCovered (linesOf (mapIn k (namespaceAt s (namespaceAt s (processAt s p .namespace) .parent)))) ls ≡ true
         → Next h (mapped k name text) (mappedTables s k (processAt s p .namespace) ls)
-    unfolding mappedTables isProcess isNamespace placeOf parentOf levelOf mapOf kernelOf heldOf
-    mapped-next k ls m w =
+    unfolding mappedTables isProcess isNamespace placeOf parentOf levelOf mapOf liftOf heldOf
+    mapped-next k ls m w c =
         let n = processAt s p .namespace in
         record {
-          agree = stores-kernel (putNamespace s n (withMap k (namespaceAt s n) (writtenMap ls))) _ _ _ _ _ _ _ _
+          agree = stores-lifted (putNamespace s n (withMap k (namespaceAt s n) (writtenMap ls))) _ _ _ _ _ _ _ _
               (stores-namespace s _ _ _ _ _ _ _ _ a n (withMap k (namespaceAt s n) (writtenMap ls)) (namespace-in-range s n target-live) _ _ _ _
               (λ i. picked-same (isNamespace h) i n _ (map-live k (namespaceAt s n) (writtenMap ls) ∙ a .namespace-live n))
               (λ i. picked-same (parentOf h) i n _ (map-parent k (namespaceAt s n) (writtenMap ls) ∙ a .namespace-parent n))
               (λ i. picked-same (levelOf h) i n _ (map-level k (namespaceAt s n) (writtenMap ls) ∙ a .namespace-level n))
               (λ j i. maps-after k j ls m i))
-              k n _ (let r = namespace-in-range s n target-live in let p = a .namespace-places in let q = a .kernel-places k in omega arith) _
-              (λ j i. kernel-after j k ls m i);
+              k n _ (let r = namespace-in-range s n target-live in let p = a .namespace-places in let q = a .lifted-places k in omega arith) _
+              (λ j i. lifted-after j k ls m i);
           allowed = record {
             process = caller-live s h a name p e;
             unwritten = rw (← caller-place s h a name p e) (sym (a .namespace-map k n) ∙ unwritten-is (mapIn k (namespaceAt s n)) w);
+            parent-written = parent-written k ls m c;
           };
         }
 
@@ -137,7 +187,7 @@ module _ (s : State) (h : List Event) (a : Agreed s h) (d : SoundAt h) (text lis
 
   pub write-map-next : (k : Kind) (c name : ℕ) → After h (WriteMap k c name) text list (writeMapOf s k c name text)
   write-map-next k c name =
-      write-map-case s (After h (WriteMap k c name) text list) (λ e i. nothing-happened s h a) k c name text (λ p ls e w m. mapped-next name p e k ls m w)
+      write-map-case s (After h (WriteMap k c name) text list) (λ e i. nothing-happened s h a) k c name text (λ p ls e w m g. mapped-next name p e k ls m w g)
 
   pub write-setgroups-next : (c name : ℕ) → After h (WriteSetgroups c name) text list (writeSetgroupsOf s c name text)
   write-setgroups-next c name =

@@ -22,13 +22,13 @@ use Rattle.tables.specs.Find.{processNamed}
 use Rattle.credentials.specs.Calls.{chosen, withUsers, withGroups, withIds, setIdsOf, toOption, groupList, withList, kernelGroups, setGroupsOf, withSets, dropOf}
 use Rattle.calls.specs.declared.Call.the-variants.{SetIds, SetGroups, Drop}
 use Rattle.claims.specs.Events.{Event, other, changed, grouped}
-use Rattle.claims.specs.Words.{Held, isProcess, isNamespace, placeOf, parentOf, levelOf, mapOf, kernelOf, heldOf, standsFor, chosenOf, changedIds, orNoId, sameKind}
+use Rattle.claims.specs.Words.{Held, isProcess, isNamespace, placeOf, parentOf, levelOf, mapOf, liftOf, heldOf, standsFor, chosenOf, changedIds, orNoId, sameKind}
 use Rattle.claims.specs.History.{AllSmall}
 use Rattle.claims.specs.Agreement.{moreIn, heldIn, Agreed}
 use Rattle.claims.proofs.Allowed.{SoundAt, AllStand}
 use Rattle.claims.proofs.Stores.{named, process-in-range, same-number}
 use Rattle.claims.proofs.Agree.{picked-same, stores-process, keeps-process, caller-is, caller-live, caller-place, caller-ids}
-use Rattle.claims.proofs.Translating.{OnceAt, stands-agrees}
+use Rattle.claims.proofs.Translating.{LiftsAt, stands-agrees}
 use Rattle.claims.proofs.Kept.{same-kind}
 use Rattle.prelude.proofs.Tests.{by-test}
 use Rattle.claims.proofs.Steps.{Next, nothing-happened, After}
@@ -88,7 +88,7 @@ groups-stand h n (x ∷ list) l b e =
     let r = cons-some (toOption (standsFor Group h n x)) (allOf (λ (x : ℕ). toOption (standsFor Group h n x)) list) l e in
     (b .0, (r .0, option-id (standsFor Group h n x) (r .0) (r .2)), groups-stand h n list (r .1) (b .1) (r .3))
 
-module _ (s : State) (h : List Event) (a : Agreed s h) (d : SoundAt h) (o : OnceAt h) (text list : List ℕ) where
+module _ (s : State) (h : List Event) (a : Agreed s h) (d : SoundAt h) (o : LiftsAt h) (text list : List ℕ) where
   module _ (c i : ℕ) (e : processNamed s c ≡ At i) where
     -- one of the three: the tables choose as the history does
     chosen-agrees : (k : Kind) (x old old′ : ℕ) → old ≡ old′ → chosen s k (processAt s i .namespace) x old ≡ chosenOf k h (placeOf h c) x old′
@@ -138,7 +138,7 @@ module _ (s : State) (h : List Event) (a : Agreed s h) (d : SoundAt h) (o : Once
           (λ t. rw (ids-held j k s (processAt s i) after, t) (picked-same (λ (r : ℕ). heldOf j h (suc r)) m i (heldIn j (processAt s i)) (a .process-ids j i)))
 
       changed-next : new .real < 2 ^ 32 → new .effective < 2 ^ 32 → new .saved < 2 ^ 32 → Next h (changed k c new) (putProcess s i (withIds s k (processAt s i) after))
-      unfolding isProcess isNamespace placeOf parentOf levelOf mapOf kernelOf heldOf
+      unfolding isProcess isNamespace placeOf parentOf levelOf mapOf liftOf heldOf
       changed-next u v w = record {
         agree = stores-process s _ _ _ _ _ _ _ _ a i (withIds s k (processAt s i) after) (process-in-range s i (named s c i e .1)) _ _ _
             (λ m. picked-same (λ (r : ℕ). isProcess h (suc r)) m i _ (ids-live s k (processAt s i) after ∙ a .process-live i))
@@ -187,7 +187,7 @@ module _ (s : State) (h : List Event) (a : Agreed s h) (d : SoundAt h) (o : Once
         rw (same-number m c i (caller-is s h a c i e), listed, g)
 
     grouped-next : AllSmall list → Next h (grouped c list) (putProcess s i (withList (processAt s i) (groupList l)))
-    unfolding isProcess isNamespace placeOf parentOf levelOf mapOf kernelOf heldOf withList
+    unfolding isProcess isNamespace placeOf parentOf levelOf mapOf liftOf heldOf withList
     grouped-next b = record {
       agree = stores-process s _ _ _ _ _ _ _ _ a i (withList (processAt s i) (groupList l)) (process-in-range s i (named s c i e .1)) _ _ _
           (λ m. picked-same (λ (r : ℕ). isProcess h (suc r)) m i _ (a .process-live i))

@@ -1,5 +1,5 @@
--- Translation level by level over any parents and lines whose maps are good and whose levels fall by one from a mapped namespace to its
--- parent: the lookups give what the relations say, each has one result, and the way out passes every namespace above. Assumes nothing.
+-- Translation level by level over any parents and lines whose maps are good and whose levels fall from a mapped namespace to its parent:
+-- the lookups give what the relations say, each has one result, and the way out passes every namespace above. Assumes nothing.
 use Prim.Native.Nat.{ℕ, zero, suc, _≤_, _<_, _^_}
 use mathlib.Core.Path.{_≡_, refl, sym, ap, _∙_, subst}
 use mathlib.Core.Bool.{true}
@@ -88,7 +88,7 @@ module _ (up : ℕ → ℕ) (lines : ℕ → List Line) (good : (n : ℕ) → go
   passes b n x y (below e u) (top f g h) = absurd (e f)
   passes b n x y (below e u) (through f z p o) = passes b (up n) z y u o
 
-  module _ (level : ℕ → ℕ) (deep : (n x z : ℕ) → (n ≡ 0 → ⊥) → Pairs (lines n) x z → level n ≡ suc (level (up n))) where
+  module _ (level : ℕ → ℕ) (deep : (n x z : ℕ) → (n ≡ 0 → ⊥) → Pairs (lines n) x z → level (up n) < level n) where
     -- what the relations have, the lookups give in as many steps as the level says
     pub is-out : (k n x y : ℕ) → level n ≤ k → Out up lines n x y → outBy up lines k n x ≡ Id y
     unfolding outBy

@@ -7,7 +7,7 @@ pub mod Stays
 pub mod Carried
 pub mod Stores
 pub mod Agree
-pub mod AtOnce
+pub mod Lifting
 pub mod Translating
 pub mod Cases
 pub mod Steps

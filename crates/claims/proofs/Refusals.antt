@@ -61,7 +61,7 @@ module _ (s : State) (buffer : List ℕ) where
   call-refuses (Clone c) text list = clone-case s Stored (refuses s buffer) c (λ p n q r f. answers s _ buffer _ _ refl)
   call-refuses (Unshare c) text list = unshare-case s Stored (refuses s buffer) c (λ p n r. answers s _ buffer _ _ refl)
   call-refuses (Setns c n) text list = setns-case s Stored (refuses s buffer) c n (λ p m e f t. answers s _ buffer _ _ refl)
-  call-refuses (WriteMap k c p) text list = write-map-case s Stored (refuses s buffer) k c p text (λ q ls e w m. answers s _ buffer _ _ refl)
+  call-refuses (WriteMap k c p) text list = write-map-case s Stored (refuses s buffer) k c p text (λ q ls e w m g. answers s _ buffer _ _ refl)
   call-refuses (WriteSetgroups c p) text list = write-setgroups-case s Stored (refuses s buffer) c p text (λ q b e. answers s _ buffer _ _ refl)
   call-refuses (ReadMap k c p) text list =
       found-case Read (processNamed s c) (refuses s buffer 3 is-3) (λ r e.

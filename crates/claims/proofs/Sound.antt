@@ -47,12 +47,12 @@ unfolding mapLines
 map-lines-good text = checked-good (textLines text)
 
 module _ (isP isN : ℕ → Bool) (place up level : ℕ → ℕ) (maps : Kind → ℕ → Option (List Line)) (s : Sound isP isN place up level maps) where
-  -- a namespace that has a line is one, so its level is one above its parent's
+  -- a namespace that has a line is one, so its level is above its parent's
   no-pairs : (k : Kind) (m x z : ℕ) → isN m ≡ false → Pairs (orNone (maps k m)) x z → ⊥
   no-pairs k m x z f p = not-suc-le-zero (rw (s .made k m f) at (p .in-range))
 
-  pub deep : (k : Kind) (m x z : ℕ) → (m ≡ 0 → ⊥) → Pairs (orNone (maps k m)) x z → level m ≡ suc (level (up m))
-  deep k m x z h p = by-test (isN m) (λ t. s .levelled m t h) (λ t. absurd (no-pairs k m x z t p))
+  pub deep : (k : Kind) (m x z : ℕ) → (m ≡ 0 → ⊥) → Pairs (orNone (maps k m)) x z → level (up m) < level m
+  deep k m x z h p = by-test (isN m) (λ t. let e = s .levelled m t h in omega arith) (λ t. absurd (no-pairs k m x z t p))
 
   -- process c goes to namespace n
   pub moves : (c n : ℕ) → isN n ≡ true → Sound isP isN (λ (p : ℕ). cond (eqb p c) n (place p)) up level maps

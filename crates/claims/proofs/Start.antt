@@ -2,20 +2,19 @@
 use Prim.Native.Nat.{ℕ, zero, suc}
 use mathlib.Core.Path.{_≡_, refl, sym, ap, _∙_}
 use mathlib.Core.Bool.{Bool, true, false, cond}
-use mathlib.Core.List.{List, [], _∷_}
+use mathlib.Core.List.{[]}
 use mathlib.Core.Option.{none}
 use native.Mathlib.Omega.{arith}
 use lib.Dec.{eqb}
 use lib.ListN.{length, getD, replicate, length-replicate}
-use Rattle.idmap.specs.declared.Line.{Line}
 use Rattle.records.specs.declared.Kind.{Kind}
 use Rattle.records.specs.declared.Kind.the-variants.{User, Group}
 use Rattle.records.specs.declared.Process.{Process}
 use Rattle.records.specs.declared.Namespace.{Namespace}
 use Rattle.records.specs.Records.{freeProcess, freeNamespace, mapIn}
-use Rattle.tables.specs.Tables.{State, processAt, namespaceAt, kernelMaps, kernelLines, putProcess, firstProcess, rootNamespace, firstKernelMaps, initialTables, allZero}
+use Rattle.tables.specs.Tables.{State, processAt, namespaceAt, liftedMaps, noLift, fixedLift, liftedAt, putProcess, firstProcess, rootNamespace, firstLiftedMaps, initialTables, allZero}
 use Rattle.prelude.proofs.Tests.{by-test}
-use Rattle.claims.specs.Words.{isProcess, isNamespace, placeOf, parentOf, levelOf, fixedLine, mapOf, kernelOf, heldOf}
+use Rattle.claims.specs.Words.{isProcess, isNamespace, placeOf, parentOf, levelOf, mapOf, liftOf, heldOf}
 use Rattle.claims.specs.Agreement.{heldIn, writtenIn, Agrees, Agreed}
 use Rattle.claims.proofs.Stores.{stored-or-kept, next-number}
 use Rattle.claims.proofs.Agree.{stores-process, stores-namespace}
@@ -26,7 +25,7 @@ all-same x (suc n) zero = refl
 all-same x (suc n) (suc i) = all-same x n i
 
 abbrev empty : State
-empty = record { processes = replicate 128 freeProcess; namespaces = replicate 64 freeNamespace; kernelUsers = firstKernelMaps; kernelGroups = firstKernelMaps }
+empty = record { processes = replicate 128 freeProcess; namespaces = replicate 64 freeNamespace; liftedUsers = firstLiftedMaps; liftedGroups = firstLiftedMaps }
 
 free-ids : (k : Kind) → heldIn k freeProcess ≡ record { three = allZero; more = [] }
 free-ids User = refl
@@ -36,29 +35,28 @@ free-map : (k : Kind) → writtenIn (mapIn k freeNamespace) ≡ none
 free-map User = refl
 free-map Group = refl
 
--- the kernel maps: the initial namespace's only
-first-places : (k : Kind) → length (kernelMaps k empty) ≡ 64
-unfolding firstKernelMaps
+-- the lifted maps: the initial namespace's only
+first-places : (k : Kind) → length (liftedMaps k empty) ≡ 64
+unfolding firstLiftedMaps
 first-places User = refl
 first-places Group = refl
 
-first-line : (i : ℕ) → getD firstKernelMaps i [] ≡ cond (eqb i 0) (fixedLine ∷ []) []
-unfolding firstKernelMaps
-first-line i =
-    stored-or-kept (replicate 64 []) 0 (fixedLine ∷ []) [] i (rw (length-replicate) (omega arith)) ∙ rw (all-same {A = List Line} [] 64 i)
+first-lift : (i : ℕ) → getD firstLiftedMaps i noLift ≡ cond (eqb i 0) fixedLift noLift
+unfolding firstLiftedMaps
+first-lift i = stored-or-kept (replicate 64 noLift) 0 fixedLift noLift i (rw (length-replicate) (omega arith)) ∙ rw (all-same noLift 64 i)
 
-first-lines : (k : Kind) (i : ℕ) → kernelLines empty k i ≡ kernelOf k [] i
-unfolding kernelLines kernelOf
-first-lines User i = first-line i
-first-lines Group i = first-line i
+first-lifts : (k : Kind) (i : ℕ) → liftedAt empty k i ≡ liftOf k [] i
+unfolding liftedAt liftOf
+first-lifts User i = first-lift i
+first-lifts Group i = first-lift i
 
 -- tables with no process and no namespace
-empty-agrees : Agrees empty (λ (i : ℕ). false) (λ (i : ℕ). false) (λ (i : ℕ). 0) (λ (i : ℕ). 0) (λ (i : ℕ). 0) (λ (k : Kind) (i : ℕ). none) (λ (k : Kind). kernelOf k []) (λ (k : Kind) (i : ℕ). record { three = allZero; more = [] })
+empty-agrees : Agrees empty (λ (i : ℕ). false) (λ (i : ℕ). false) (λ (i : ℕ). 0) (λ (i : ℕ). 0) (λ (i : ℕ). 0) (λ (k : Kind) (i : ℕ). none) (λ (k : Kind). liftOf k []) (λ (k : Kind) (i : ℕ). record { three = allZero; more = [] })
 unfolding processAt namespaceAt
 empty-agrees = record {
   process-places = length-replicate 128 freeProcess;
   namespace-places = length-replicate 64 freeNamespace;
-  kernel-places = first-places;
+  lifted-places = first-places;
   process-live = λ i. ap (λ (p : Process). p .live) (all-same freeProcess 128 i);
   process-place = λ i. ap (λ (p : Process). p .namespace) (all-same freeProcess 128 i);
   process-ids = λ k i. ap (heldIn k) (all-same freeProcess 128 i) ∙ free-ids k;
@@ -66,7 +64,7 @@ empty-agrees = record {
   namespace-parent = λ i. ap (λ (n : Namespace). n .parent) (all-same freeNamespace 64 i);
   namespace-level = λ i. ap (λ (n : Namespace). n .level) (all-same freeNamespace 64 i);
   namespace-map = λ k i. ap (λ (n : Namespace). writtenIn (mapIn k n)) (all-same freeNamespace 64 i) ∙ free-map k;
-  namespace-kernel = first-lines;
+  namespace-lifted = first-lifts;
 }
 
 first-ids : (k : Kind) → heldIn k firstProcess ≡ record { three = allZero; more = [] }

@@ -24,7 +24,7 @@ use Rattle.calls.specs.declared.Call.{Call}
 use Rattle.calls.specs.declared.Call.the-variants.{Fork, Clone, Unshare, Setns}
 use Rattle.prelude.proofs.Tests.{by-test, and-left}
 use Rattle.claims.specs.Events.{Event, other, forked, cloned, unshared, joined}
-use Rattle.claims.specs.Words.{isProcess, isNamespace, placeOf, parentOf, levelOf, mapOf, kernelOf, heldOf}
+use Rattle.claims.specs.Words.{isProcess, isNamespace, placeOf, parentOf, levelOf, mapOf, liftOf, heldOf}
 use Rattle.claims.specs.Translation.{here}
 use Rattle.claims.specs.Translation.{below as under-parent}
 use Rattle.claims.specs.TopLevel.{IsUnder}
@@ -42,7 +42,7 @@ pub record Next (h : List Event) (e : Event) (t : State) : Type 0 where
 
 -- nothing happened
 pub nothing-happened : (s : State) (h : List Event) → Agreed s h → Next h other s
-unfolding isProcess isNamespace placeOf parentOf levelOf mapOf kernelOf heldOf
+unfolding isProcess isNamespace placeOf parentOf levelOf mapOf liftOf heldOf
 nothing-happened s h a = record { agree = a; allowed = tt }
 
 abbrev pub After : List Event → Call → List ℕ → List ℕ → Outcome → Type 0
@@ -51,7 +51,7 @@ After h c text list o = Next h (happenedBy c text list (o .reply)) (o .tables)
 module _ (s : State) (h : List Event) (a : Agreed s h) (d : SoundAt h) (text list : List ℕ) where
   -- ---- fork
   forked-next : (c i q : ℕ) → processNamed s c ≡ At i → freeProcessPlace s ≡ At q → Next h (forked c (q + 1)) (putProcess s q (processAt s i))
-  unfolding isProcess isNamespace placeOf parentOf levelOf mapOf kernelOf heldOf
+  unfolding isProcess isNamespace placeOf parentOf levelOf mapOf liftOf heldOf
   forked-next c i q e f = record {
     agree = stores-process s _ _ _ _ _ _ _ _ a q (processAt s i) (free-process s q f .0) _ _ _
         (λ j. rw (next-number j q, named s c i e .1))
@@ -95,7 +95,7 @@ module _ (s : State) (h : List Event) (a : Agreed s h) (d : SoundAt h) (text lis
     -- the namespace is stored, and every process is as it was
     with-child : Agrees (withChild s p n) (isProcess h) (λ (i : ℕ). cond (eqb i n) true (isNamespace h i)) (placeOf h)
         (λ (i : ℕ). cond (eqb i n) (placeOf h c) (parentOf h i)) (λ (i : ℕ). cond (eqb i n) (suc (levelOf h (placeOf h c))) (levelOf h i))
-        (λ (k : Kind). mapOf k h) (λ (k : Kind). kernelOf k h) (λ (k : Kind). heldOf k h)
+        (λ (k : Kind). mapOf k h) (λ (k : Kind). liftOf k h) (λ (k : Kind). heldOf k h)
     unfolding below
     with-child =
         stores-namespace s _ _ _ _ _ _ _ _ a n (below (processAt s p) (namespaceAt s (processAt s p .namespace))) (free-namespace s n g .0) _ _ _ _
@@ -105,7 +105,7 @@ module _ (s : State) (h : List Event) (a : Agreed s h) (d : SoundAt h) (text lis
         (λ k i. picked-same (mapOf k h) i n (writtenIn (mapIn k (below (processAt s p) (namespaceAt s (processAt s p .namespace))))) (fresh-map k (processAt s p) (namespaceAt s (processAt s p .namespace)) ∙ sym (d .made k n unused)))
 
     cloned-next : (q : ℕ) → freeProcessPlace s ≡ At q → Next h (cloned c (q + 1) n) (putProcess (withChild s p n) q (entered (processAt s p) n))
-    unfolding isProcess isNamespace placeOf parentOf levelOf mapOf kernelOf heldOf entered
+    unfolding isProcess isNamespace placeOf parentOf levelOf mapOf liftOf heldOf entered
     cloned-next q f = record {
       agree = stores-process (withChild s p n) _ _ _ _ _ _ _ _ with-child q (entered (processAt s p) n) (free-process s q f .0) _ _ _
           (λ j. rw (next-number j q, named s c p e .1))
@@ -122,7 +122,7 @@ module _ (s : State) (h : List Event) (a : Agreed s h) (d : SoundAt h) (text lis
     }
 
     unshared-next : Next h (unshared c n) (putProcess (withChild s p n) p (entered (processAt s p) n))
-    unfolding isProcess isNamespace placeOf parentOf levelOf mapOf kernelOf heldOf entered
+    unfolding isProcess isNamespace placeOf parentOf levelOf mapOf liftOf heldOf entered
     unshared-next = record {
       agree = stores-process (withChild s p n) _ _ _ _ _ _ _ _ with-child p (entered (processAt s p) n) (process-in-range s p (named s c p e .1)) _ _ _
           (λ j. picked-same (λ (i : ℕ). isProcess h (suc i)) j p (processAt s p .live) (a .process-live p))
@@ -157,7 +157,7 @@ module _ (s : State) (h : List Event) (a : Agreed s h) (d : SoundAt h) (text lis
       (λ o. under-parent (eqb-false n 0 z) (rw (a .namespace-parent n) at (reaches own euid mine k (namespaceAt s n .parent) (sym (rw (t, z, o)) ∙ e))))))
 
   joined-next : (c name p n : ℕ) → processNamed s c ≡ At p → namespaceNamed s name ≡ At n → capableIn s (processAt s p) n sysAdmin ≡ true → Next h (joined c name) (putProcess s p (entered (processAt s p) n))
-  unfolding isProcess isNamespace placeOf parentOf levelOf mapOf kernelOf heldOf entered capableIn
+  unfolding isProcess isNamespace placeOf parentOf levelOf mapOf liftOf heldOf entered capableIn
   joined-next c name p n e f t = record {
     agree = stores-process s _ _ _ _ _ _ _ _ a p (entered (processAt s p) n) (process-in-range s p (named s c p e .1)) _ _ _
         (λ j. picked-same (λ (i : ℕ). isProcess h (suc i)) j p (processAt s p .live) (a .process-live p))

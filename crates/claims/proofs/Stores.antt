@@ -8,14 +8,14 @@ use lib.Dec.{eqb, ltb}
 use lib.ListN.{length, getD, set, List·getD-eq-default}
 use lib.Seq.{getD-set-same, getD-set-other}
 use borrow.Author.Tests.{eq-eqb, eqb-true, eqb-false, ltb-true, ltb-false}
-use Rattle.idmap.specs.declared.Line.{Line}
+use Rattle.lifted_map.specs.Lift.{Lifted}
 use Rattle.records.specs.declared.Process.{Process}
 use Rattle.records.specs.declared.Namespace.{Namespace}
 use Rattle.records.specs.declared.Kind.{Kind}
 use Rattle.records.specs.declared.Kind.the-variants.{User, Group}
 use Rattle.records.specs.Records.{freeProcess, freeNamespace}
 use Rattle.tables.specs.declared.find.Found.the-variants.{At, Nothing}
-use Rattle.tables.specs.Tables.{State, processAt, namespaceAt, kernelMaps, kernelLines, putProcess, putNamespace, putKernelMap}
+use Rattle.tables.specs.Tables.{State, processAt, namespaceAt, liftedMaps, noLift, liftedAt, putProcess, putNamespace, putLiftedMap}
 use Rattle.tables.specs.Find.{processNamed, namespaceNamed, freeFrom, freeProcessPlace, freeNamespacePlace}
 use Rattle.prelude.proofs.Tests.{by-test, test-same}
 use Rattle.claims.specs.Words.{sameKind}
@@ -40,12 +40,12 @@ pub read-namespace : (s : State) (q : ℕ) (n : Namespace) (i : ℕ) → q < len
 unfolding namespaceAt
 read-namespace s q n i h = stored-or-kept (s .namespaces) q n freeNamespace i h
 
-pub read-kernel : (s : State) (j : Kind) (q : ℕ) (m : List Line) (k : Kind) (i : ℕ) → q < length (kernelMaps j s) → kernelLines (putKernelMap s j q m) k i ≡ cond (sameKind k j && eqb i q) m (kernelLines s k i)
-unfolding kernelLines
-read-kernel s User q m User i h = stored-or-kept (s .kernelUsers) q m [] i h
-read-kernel s User q m Group i h = refl
-read-kernel s Group q m User i h = refl
-read-kernel s Group q m Group i h = stored-or-kept (s .kernelGroups) q m [] i h
+pub read-lifted : (s : State) (j : Kind) (q : ℕ) (m : Lifted) (k : Kind) (i : ℕ) → q < length (liftedMaps j s) → liftedAt (putLiftedMap s j q m) k i ≡ cond (sameKind k j && eqb i q) m (liftedAt s k i)
+unfolding liftedAt
+read-lifted s User q m User i h = stored-or-kept (s .liftedUsers) q m noLift i h
+read-lifted s User q m Group i h = refl
+read-lifted s Group q m User i h = refl
+read-lifted s Group q m Group i h = stored-or-kept (s .liftedGroups) q m noLift i h
 
 -- ---- what is live is in range, since a place past the end is free
 pub process-in-range : (s : State) (i : ℕ) → processAt s i .live ≡ true → i < length (s .processes)

@@ -31,7 +31,7 @@ use Rattle.claims.proofs.Allowed.{Valid, SoundAt, sound}
 use Rattle.claims.proofs.Stays.{stays, still-top}
 use Rattle.claims.proofs.Carried.{carried}
 use Rattle.claims.proofs.Stores.{space-named}
-use Rattle.claims.proofs.Translating.{OnceAt, once, stands-agrees, returns-agrees}
+use Rattle.claims.proofs.Translating.{LiftsAt, lifts, stands-agrees, returns-agrees}
 use Rattle.claims.proofs.Steps.{Next, nothing-happened, fork-next, clone-next, unshare-next, setns-next}
 use Rattle.claims.proofs.Cases.{found-case}
 use Rattle.claims.proofs.FileSteps.{write-map-next, write-setgroups-next}
@@ -39,7 +39,7 @@ use Rattle.claims.proofs.IdSteps.{set-ids-next, set-groups-next, drop-n
 use Rattle.claims.proofs.Start.{start-agrees}
 
 -- ---- one call
-module _ (s : State) (h : List Event) (a : Agreed s h) (d : SoundAt h) (u : OnceAt h) (text list buffer : List ℕ) where
+module _ (s : State) (h : List Event) (a : Agreed s h) (d : SoundAt h) (u : LiftsAt h) (text list buffer : List ℕ) where
   -- its tables agree with the history that it lengthens, and it was allowed
   call-next : (c : Call) → CallFits c → AllSmall list → Next h (happenedBy c text list (answerBy s c text list buffer .reply)) (answerBy s c text list buffer .tables)
   unfolding answerBy
@@ -71,7 +71,7 @@ answers (Id x) R f r = (
 answers Unmapped R f r =
     ((λ y. ((λ e. absurd (no-reply (sym e))), (λ q. absurd (two-answers (f y .1 q))))), ((λ e y q. two-answers (f y .1 q)), (λ g. refl)))
 
-module _ (s : State) (h : List Event) (a : Agreed s h) (d : SoundAt h) (u : OnceAt h) where
+module _ (s : State) (h : List Event) (a : Agreed s h) (d : SoundAt h) (u : LiftsAt h) where
   -- what the tables translate to is what the history does
   pub by-history : (k : Kind) (w : Way) (n x : ℕ) → x < 2 ^ 32 → (y : ℕ) → (turned s k w n x ≡ Id y) ↔ TranslatesTo h k w n x y
   by-history k Out n x small y = (
@@ -127,7 +127,7 @@ step : (s : State) (h : List Entry) (r : Request) → Fits r → Reached s h →
 unfolding Valid AllTranslate
 step s h r f a =
     let d = sound (events h) (a .valid) in
-    let o = once (events h) (a .valid) in
+    let o = lifts (events h) (a .valid) in
     let n = call-next s (events h) (a .agree) d o (r .text) (r .list) (r .buffer) (r .call) (f .0) (f .1) in
     record {
       agree = n .agree;

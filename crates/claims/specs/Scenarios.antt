@@ -17,7 +17,7 @@ use Rattle.records.specs.declared.MapState.the-variants.{Unwritten, Written}
 use Rattle.records.specs.declared.IdMap.{IdMap}
 use Rattle.records.specs.declared.Namespace.{Namespace}
 use Rattle.records.specs.Records.{freeMap, freeNamespace, freeProcess, linesOf}
-use Rattle.tables.specs.Tables.{State, initialTables, firstProcess, rootNamespace}
+use Rattle.tables.specs.Tables.{State, initialTables, firstProcess, rootNamespace, noLift}
 use Rattle.tables.specs.Reply.{Reply, refused, done, child, newNamespace, yes′, no′, bytes, id, unmapped}
 use Rattle.credentials.specs.declared.translate.Way.the-variants.{Out}
 use Rattle.calls.specs.declared.Call.{Call}
@@ -228,15 +228,15 @@ requests c = map (λ (row : Row). row .request) (c .rows)
 abbrev pub found : Scenario → Result
 found c = record { answers = answersFrom initialTables (requests c); tables = run (requests c) }
 
--- of the 128 places for processes and the 64 for namespaces the others are free. No namespace is deeper than level 1, so the kernel lines are the lines
+-- of the 128 places for processes and the 64 for namespaces the others are free. No namespace is deeper than level 1, so a map is lifted as it stands
 abbrev pub expected : Scenario → Result
 expected c = record {
   answers = map (λ (row : Row). record { reply = row .reply; buffer = row .buffer }) (c .rows);
   tables = record {
     processes = c .processes ++ replicate (128 - length (c .processes)) freeProcess;
     namespaces = c .namespaces ++ replicate (64 - length (c .namespaces)) freeNamespace;
-    kernelUsers = map (λ (n : Namespace). linesOf (n .users)) (c .namespaces) ++ replicate (64 - length (c .namespaces)) [];
-    kernelGroups = map (λ (n : Namespace). linesOf (n .groups)) (c .namespaces) ++ replicate (64 - length (c .namespaces)) [];
+    liftedUsers = map (λ (n : Namespace). record { base = 0; lines = linesOf (n .users) }) (c .namespaces) ++ replicate (64 - length (c .namespaces)) noLift;
+    liftedGroups = map (λ (n : Namespace). record { base = 0; lines = linesOf (n .groups) }) (c .namespaces) ++ replicate (64 - length (c .namespaces)) noLift;
   };
 }
 

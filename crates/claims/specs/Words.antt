@@ -10,11 +10,11 @@ use Rattle.idmap.specs.declared.Translated.{Translated}
 use Rattle.idmap.specs.declared.Translated.the-variants.{Id, Unmapped}
 use Rattle.idmap.specs.Good.{noId}
 use Rattle.idmap.specs.Text.{mapLines}
-use Rattle.kernel_map.specs.Compose.{liftedOf}
+use Rattle.lifted_map.specs.Lift.{Lifted, liftedOf}
 use Rattle.records.specs.declared.Kind.{Kind}
 use Rattle.records.specs.declared.Kind.the-variants.{User, Group}
 use Rattle.records.specs.declared.Ids.{Ids}
-use Rattle.tables.specs.Tables.{allZero}
+use Rattle.tables.specs.Tables.{allZero, fixedLine, noLift, fixedLift}
 use Rattle.claims.specs.Events.{Event, other, forked, cloned, unshared, joined, mapped, changed, grouped}
 use Rattle.claims.specs.Translation.{outBy}
 
@@ -85,10 +85,6 @@ sameKind User Group = false
 sameKind Group User = false
 sameKind Group Group = true
 
--- namespace 0 has the fixed line 0 0 4294967295
-abbrev pub fixedLine : Line
-fixedLine = record { inside = 0; parent = 0; count = noId }
-
 -- a namespace's map is the lines of the map write for it answered 'done', unwritten until then; namespace 0's is its fixed line
 unfoldable pub mapOf : Kind → List Event → ℕ → Option (List Line)
 mapOf k [] m = cond (eqb m 0) (some (fixedLine ∷ [])) none
@@ -106,23 +102,25 @@ abbrev pub orNone : Option (List Line) → List Line
 orNone none = []
 orNone (some ls) = ls
 
--- the kernel lines of a namespace, with kernel IDs on the parent side: the pieces that the lines of the map write have in common with the parent's
--- kernel lines of that moment; none where they are too many. Nothing here translates by them: that the tables may is a law
-abbrev pub liftedBy : List Line → Option (List Line) → List Line
-liftedBy above none = []
-liftedBy above (some ls) = liftedOf above ls
+-- the lifted map of a namespace: the lines of the map write, lifted over the parent's lifted map of that moment. Nothing here translates by it: that
+-- the tables may is a law
+abbrev pub liftedBy : Lifted → ℕ → Option (List Line) → Lifted
+liftedBy above parent none = noLift
+liftedBy above parent (some ls) = liftedOf above parent ls
 
-unfoldable pub kernelOf : Kind → List Event → ℕ → List Line
-kernelOf k [] m = cond (eqb m 0) (fixedLine ∷ []) []
-kernelOf k (other ∷ h) m = kernelOf k h m
-kernelOf k (forked c q ∷ h) m = kernelOf k h m
-kernelOf k (cloned c q n ∷ h) m = kernelOf k h m
-kernelOf k (unshared c n ∷ h) m = kernelOf k h m
-kernelOf k (joined c n ∷ h) m = kernelOf k h m
-kernelOf k (mapped j q text ∷ h) m =
-    cond (sameKind k j && eqb m (placeOf h q)) (liftedBy (kernelOf k h (parentOf h (placeOf h q))) (mapLines text)) (kernelOf k h m)
-kernelOf k (changed j c new ∷ h) m = kernelOf k h m
-kernelOf k (grouped c list ∷ h) m = kernelOf k h m
+unfoldable pub liftOf : Kind → List Event → ℕ → Lifted
+liftOf k [] m = cond (eqb m 0) fixedLift noLift
+liftOf k (other ∷ h) m = liftOf k h m
+liftOf k (forked c q ∷ h) m = liftOf k h m
+liftOf k (cloned c q n ∷ h) m = liftOf k h m
+liftOf k (unshared c n ∷ h) m = liftOf k h m
+liftOf k (joined c n ∷ h) m = liftOf k h m
+liftOf k (mapped j q text ∷ h) m =
+    cond (sameKind k j && eqb m (placeOf h q))
+    (liftedBy (liftOf k h (parentOf h (placeOf h q))) (parentOf h (placeOf h q)) (mapLines text))
+    (liftOf k h m)
+liftOf k (changed j c new ∷ h) m = liftOf k h m
+liftOf k (grouped c list ∷ h) m = liftOf k h m
 
 abbrev pub linesOf : Kind → List Event → ℕ → List Line
 linesOf k h m = orNone (mapOf k h m)

@@ -23,7 +23,7 @@ use Rattle.lifted_map.proofs.Pieces.{common-is, common-bounded, common-
 less-low : (x a : ℕ) → less (x % 2 ^ 32) a ≡ less x a
 less-low x a = omega arith
 
-out-low : (ls : List Line) (x : ℕ) → out ls (x % 2 ^ 32) ≡ out ls x
+pub out-low : (ls : List Line) (x : ℕ) → out ls (x % 2 ^ 32) ≡ out ls x
 unfolding out
 out-low [] x = refl
 out-low (l ∷ ls) x = rw (less-low x (l .inside), out-low ls x)
