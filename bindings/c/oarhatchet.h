@@ -23,7 +23,7 @@ extern "C" {
 #endif
 
 /* The words of the tables. */
-#define OARHATCHET_TABLES 18752
+#define OARHATCHET_TABLES 18880
 /* The words that oarhatchet_getids writes: six IDs and sixteen places for groups. */
 #define OARHATCHET_IDS 22
 /* The answer of a translation where the ID is not mapped. It is no ID, in any namespace. */

@@ -9,7 +9,7 @@
 #![allow(unsafe_code)]
 
 /// The words of the tables.
-pub const WORDS: usize = 18752;
+pub const WORDS: usize = 18880;
 pub type Words = [u64; WORDS];
 
 /// What the own-ID question writes: six IDs and sixteen places for groups.

@@ -129,7 +129,7 @@ fn serve(t: &mut Tables, line: &mut [u8], scratch: &mut [u8], out: &mut [u8]) {
 }
 
 fn main() {
-    let mut t = [0u64; 18752];
+    let mut t = [0u64; 18880];
     tables::initial::initial(&mut t);
     let mut line = [0u8; 65536];
     let mut scratch = [0u8; 65536];

@@ -1,5 +1,5 @@
 -- Translation, step by step, in the words of the code: each law's premises are what a place knows. Assumes nothing.
-use Prim.Native.Nat.{ℕ, zero, suc, _-_}
+use Prim.Native.Nat.{ℕ, zero, suc, _-_, _≤_}
 use mathlib.Core.Path.{_≡_, refl, sym, ap, _∙_}
 use mathlib.Core.List.{List}
 use native.Mathlib.Omega.{arith}
@@ -108,14 +108,28 @@ module _ (s : State) (kind : Kind) where
     unfolding fromKernelBy
     from-root r z e = e ∙ sym (rw (eq-eqb n 0 z))
 
-    module _ (below : n ≡ 0 → ⊥) (f : Translated) (above : f ≡ backIn s kind 31 b y) where
-      pub from-none : f ≡ Unmapped → Unmapped ≡ fromKernelBy s kind (record { base = b; lines = ls }) n y
+    module _ (below : n ≡ 0 → ⊥) where
+      pub from-lower : (r : Translated) → r ≡ thenId (backIn s kind 31 b y) (back ls) → r ≡ fromKernelBy s kind (record { base = b; lines = ls }) n y
       unfolding fromKernelBy
-      from-none e = sym (rw (ne-eqb n 0 below, ← above, e))
+      from-lower r e = e ∙ sym (rw (ne-eqb n 0 below))
 
-      pub from-on : (z : ℕ) (r : Translated) → f ≡ Id z → r ≡ back ls z → r ≡ fromKernelBy s kind (record { base = b; lines = ls }) n y
+      -- from the initial namespace, at once
+      from-first : b ≤ 0 → fromKernelBy s kind (record { base = b; lines = ls }) n y ≡ thenId (itself y) (back ls)
       unfolding fromKernelBy
-      from-on z r e found = found ∙ sym (rw (ne-eqb n 0 below, ← above, e))
+      from-first h = rw (ne-eqb n 0 below) (ap (λ (t : Translated). thenId t (back ls)) (back-root 31 b y (omega arith)))
+
+      pub from-no-id : b ≤ 0 → y ≡ 4294967295 → Unmapped ≡ fromKernelBy s kind (record { base = b; lines = ls }) n y
+      from-no-id h e = sym (from-first h ∙ rw (eq-eqb y 4294967295 e))
+
+      pub from-once : (r : Translated) → b ≤ 0 → (y ≡ 4294967295 → ⊥) → r ≡ back ls y → r ≡ fromKernelBy s kind (record { base = b; lines = ls }) n y
+      from-once r h e q = q ∙ sym (from-first h ∙ rw (ne-eqb y 4294967295 e))
+
+-- ---- from_base
+pub then-none : (ls : List Line) (f g : Translated) → f ≡ g → f ≡ Unmapped → Unmapped ≡ thenId g (back ls)
+then-none ls f g q e = sym (rw (sym q ∙ e))
+
+pub then-on : (ls : List Line) (f g r : Translated) (z : ℕ) → f ≡ g → f ≡ Id z → r ≡ back ls z → r ≡ thenId g (back ls)
+then-on ls f g r z q e found = found ∙ sym (rw (sym q ∙ e))
 
 -- ---- by the lifted map that the tables have
 module _ (s : State) (kind : Kind) (ls : List Line) (b n x : ℕ) (r : Translated) (lines : ls ≡ liftedAt s kind n .lines) (base : b ≡ liftedAt s kind n .base) where
@@ -158,8 +172,11 @@ pub ruleset translations = (
   back-none,
   back-on,
   from-root,
-  from-none,
-  from-on,
+  from-lower,
+  from-no-id,
+  from-once,
+  then-none,
+  then-on,
   from-own,
   needs,
 )

@@ -1,6 +1,7 @@
 // Translation of IDs between a namespace and the initial one, by lifted maps.
 ghost use mathlib.Core.Path.{_≡_};
 ghost use Rattle.idmap.specs.Line.{linesIn};
+ghost use Rattle.idmap.specs.Lookup.{thenId, back};
 ghost use Rattle.tables.specs.Tables.{tablesOf};
 ghost use Rattle.hierarchy.specs.Walks.{itself, outIn, toKernelBy, toKernel, backIn, fromKernelBy, fromKernel};
 use idmap::Translated;
@@ -97,14 +98,15 @@ fn down(t: &Tables, kind: Kind, left: u64, at: u64, id: u32) -> Translated
     }
 }
 
-// The ID of a base that stands for a kernel ID.
-fn at_base(t: &Tables, kind: Kind, base: u64, id: u32) -> Translated
-    ensures { λ r. ⌜ r ≡ backIn (tablesOf (now (t .entry))) kind 31 base id ⌝ }
+// The ID of a namespace for a kernel ID, by the lines of its lifted map and from its base down.
+fn from_base(t: &Tables, kind: Kind, lines: &[u64], base: u64, id: u32) -> Translated
+    ensures { λ r. ⌜ r ≡ thenId (backIn (tablesOf (now (t .entry))) kind 31 base id) (back (linesIn (now (lines .entry)))) ⌝ }
 {
-    if base == 0 {
-        return same(id);
+    let above = down(t, kind, 31, base, id);
+    match above {
+        Translated::Id(z) => lookup_back(lines, z),
+        Translated::Unmapped => Translated::Unmapped,
     }
-    down(t, kind, 31, base, id)
 }
 
 // The ID of a namespace that stands for a kernel ID, by the lines and the base of its lifted map.
@@ -121,11 +123,13 @@ pub fn from_kernel_by(
     if place == 0 {
         return same(id);
     }
-    let above = at_base(t, kind, base, id);
-    match above {
-        Translated::Id(z) => lookup_back(lines, z),
-        Translated::Unmapped => Translated::Unmapped,
+    if 0 < base {
+        return from_base(t, kind, lines, base, id);
     }
+    if id == 4294967295 {
+        return Translated::Unmapped;
+    }
+    lookup_back(lines, id)
 }
 
 // The ID of a namespace that stands for a kernel ID. Linux: from_kuid, from_kgid.

@@ -8,9 +8,8 @@ from-kernel-by-spec =
     tie.close (tie.spec
     (λ c κs. search translations)  -- same-requires
     (λ c. search translations)  -- returns
-    (λ c κs. search translations)  -- at-base-requires
-    (λ c. search translations)  -- enum-known-above
-    (λ c κs. search translations)  -- lookup-back-requires
-    (λ c. search translations)  -- enum-told
+    (λ c κs. search translations)  -- from-base-requires
     (λ c. search translations)  -- returns-2
-    (λ c. search translations))  -- returns-3
+    (λ c. search translations)  -- returns-3
+    (λ c κs. search translations)  -- lookup-back-requires
+    (λ c. search translations))  -- returns-4
