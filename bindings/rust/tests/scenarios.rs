@@ -188,8 +188,8 @@ fn translation_goes_through_levels() {
     }
 }
 
-/// At each level four of five lines run across two lines of the map above, so that a map is cut into four pieces more than the
-/// one above it: into more than a kernel map has room for from level 9 on, where translation goes level by level.
+/// At each level four of five lines run across two lines of the map above, so that a map has four pieces more than the one above
+/// it, and from level 9 on more than a lifted map has room for.
 #[test]
 fn translation_goes_through_lines_across() {
     let mut tables = Tables::new();

@@ -52,7 +52,7 @@ module _ (ws : List ℕ) (n : ℕ) (k : Line) where
       let full = ltb-false n 33 t in
       rw (lt-leb (n + 1) 33 (omega arith), le-leb n 33 h, ne-eqb (k .count) 0 e, length-take-le n (placesIn ws) (omega arith), t))
 
--- ---- add_all: the pieces that are still to come, from place i of the words above on
+-- ---- add_pieces: the pieces that are still to come, from place i of the words above on
 pub addedFrom : Option (List Line) → Line → List ℕ → ℕ → Option (List Line)
 addedFrom o l above i = addedAll o (map (commonOf l) (linesIn (drop i above)))
 

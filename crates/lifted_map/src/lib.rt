@@ -4,5 +4,8 @@
 pub mod lift;
 pub mod read;
 
+// The most lines that a lifted map has.
+pub const MAX_PIECES: usize = 33;
+
 // The number of lines, the base, which is the namespace whose IDs are on the parent side, and three words for each of up to 33 lines.
 pub type LiftedMap = [u64; 101];

@@ -6,9 +6,10 @@ ghost use Prim.Native.Nat.{_-_, _≤_, min};
 ghost use lib.ListN.{length, take, set};
 ghost use Rattle.idmap.specs.Good.{maxLines};
 ghost use Rattle.idmap.specs.Line.{linesIn};
-ghost use Rattle.lifted_map.specs.Lift.{commonOf, piecesOf, placesIn, liftedIn, liftedOf};
+ghost use Rattle.lifted_map.specs.Lift.{commonOf, piecesOf, maxPieces, placesIn, liftedIn, liftedOf};
 ghost use Rattle.lifted_map.specs.Adding.{piecesIn, added, addedAll};
 use crate::LiftedMap;
+use crate::MAX_PIECES;
 use idmap::Line;
 use idmap::MAX_LINES;
 use idmap::overlap::least;
@@ -36,11 +37,11 @@ fn common(l: Line, p: Line) -> Line
     }
 }
 
-// Stores a line at place `n` of a row. There is no place 33.
+// Stores a line at place `n` of a row. A place past the last takes nothing.
 fn put(row: &mut LiftedMap, n: usize, l: Line)
-    requires { ⌜ n ≤ 33 ⌝ }
+    requires { ⌜ n ≤ maxPieces ⌝ }
     ensures stored { λ r. ⌜ placesIn (now (row .exit)) ≡ set (placesIn (now (row .entry))) n l ⌝ }
-    ensures room { λ r. ⌜ length (placesIn (now (row .entry))) ≡ 33 ⌝ }
+    ensures room { λ r. ⌜ length (placesIn (now (row .entry))) ≡ maxPieces ⌝ }
 {
     let words = [l.inside as u64, l.parent as u64, l.count as u64];
     rows::put(row, 2 + n * 3, &words);
@@ -54,15 +55,15 @@ fn put_head(row: &mut LiftedMap, count: usize, base: u64)
     rows::put(row, 0, &words);
 }
 
-// Adds a piece to the `n` that a row has, unless it is empty. Answers how many there are now; over 33 where there is no room, and then nothing is
-// stored any more.
+// Adds a piece to the `n` that a row has, unless it is empty. Answers how many there are now, or more than there is room for; then nothing is stored
+// any more.
 fn add(row: &mut LiftedMap, n: usize, piece: Line) -> usize
     ensures { λ r. ⌜ piecesIn (now (row .exit)) r ≡ added (piecesIn (now (row .entry)) n) piece ⌝ }
 {
     if piece.count == 0 {
         return n;
     }
-    if 33 < n {
+    if MAX_PIECES < n {
         return n;
     }
     put(row, n, piece);
@@ -70,7 +71,7 @@ fn add(row: &mut LiftedMap, n: usize, piece: Line) -> usize
 }
 
 // Adds the pieces of line `l`.
-fn add_all(row: &mut LiftedMap, n: usize, above: &[u64], l: Line) -> usize
+fn add_pieces(row: &mut LiftedMap, n: usize, above: &[u64], l: Line) -> usize
     ensures { λ r. ⌜ piecesIn (now (row .exit)) r ≡ addedAll (piecesIn (now (row .entry)) n) (map (commonOf l) (linesIn (now (above .entry)))) ⌝ }
 {
     let mut k = n;
@@ -103,7 +104,7 @@ fn add_lines(row: &mut LiftedMap, above: &[u64], lines: [Line; MAX_LINES], count
     let mut i: usize = 0;
     while i < end {
         let l = lines[i];
-        n = add_all(row, n, above, l);
+        n = add_pieces(row, n, above, l);
         i += 1;
     }
     n
@@ -137,7 +138,7 @@ pub fn lift(
 {
     let mut row: LiftedMap = [0; 101];
     let n = add_lines(&mut row, above, lines, count);
-    if 33 < n {
+    if MAX_PIECES < n {
         return as_written(lines, count, parent);
     }
     put_head(&mut row, n, base);

@@ -24,7 +24,7 @@ add-lines-spec =
     (λ c. search adding)  -- loop-holds
     (λ c. search adding)  -- mul-l
     (λ c. search adding)  -- array-copy-out-l
-    (λ c κs. search adding)  -- add-all-requires
+    (λ c κs. search adding)  -- add-pieces-requires
     (λ c. search adding)  -- add-i
     (λ c. search adding)  -- loop-less
     (λ c. search adding)  -- loop-again

@@ -1,12 +1,12 @@
--- `lifted_map::lift::add_all` meets its contract. Assumes nothing.
+-- `lifted_map::lift::add_pieces` meets its contract. Assumes nothing.
 use mathlib.Core.Path.{_≡_}
 use Prim.Native.Nat.{_≤_, _-_}
 use lib.ListN.{length}
 use Rattle.lifted_map.specs.Adding.{piecesIn}
 use Rattle.lifted_map.proofs.Adding.{addedFrom}
 use Rattle.lifted_map.proofs.Adding.{adding}
-use Rattle.lifted_map.proofs.lift.add_all.Statement.{statement}
-use Rattle.lifted_map.proofs.lift.add_all.Tie as tie
+use Rattle.lifted_map.proofs.lift.add_pieces.Statement.{statement}
+use Rattle.lifted_map.proofs.lift.add_pieces.Tie as tie
 
 abbrev Inv-loop : tie.InvT-loop
 Inv-loop row₀ n above l k₀ i₀ row k i = (i ≤ length above) × (addedFrom (piecesIn row k) l above i ≡ addedFrom (piecesIn row₀ n) l above 0)
@@ -14,8 +14,8 @@ Inv-loop row₀ n above l k₀ i₀ row k i = (i ≤ length above) × (addedFrom
 abbrev μ-loop : tie.MeasureT-loop
 μ-loop row₀ n above l k₀ i₀ row k i = length above - i
 
-pub add-all-spec : {M : Type 1} → statement M
-add-all-spec =
+pub add-pieces-spec : {M : Type 1} → statement M
+add-pieces-spec =
     tie.close (tie.spec Inv-loop μ-loop
     (λ c. search adding)  -- loop-holds
     (λ c. search adding)  -- sub-loop
