@@ -73,7 +73,7 @@ module _ (l : Line) (above ws₀ ws : List ℕ) (n k : ℕ) where
         ∙ sym (rw (lines-step above i h))
         ∙ inv
 
--- ---- add_lines: the pieces of the lines that are still to come
+-- ---- put_pieces: the pieces of the lines that are still to come
 pub addedLines : Option (List Line) → List Line → List Line → Option (List Line)
 addedLines o above ls = addedAll o (piecesOf above ls)
 
@@ -100,7 +100,7 @@ module _ (above lines : List Line) (count n i : ℕ) (ws : List ℕ) (inv : adde
       ∙ sym (rw (left-step lines count i noLine (omega arith) (omega arith)))
       ∙ inv
 
--- ---- as_written: the first i lines are in their places
+-- ---- put_lines: the first i lines are in their places
 front-all : (lines : List Line) (count : ℕ) → length lines ≡ 5 → take (min count 5) lines ≡ take count lines
 front-all lines count long =
     by-test (ltb count 5)

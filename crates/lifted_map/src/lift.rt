@@ -95,8 +95,8 @@ fn given(count: usize) -> usize
     if count < MAX_LINES { count } else { MAX_LINES }
 }
 
-// Adds the pieces of the first `count` lines to a row that has none.
-fn add_lines(row: &mut LiftedMap, above: &[u64], lines: [Line; MAX_LINES], count: usize) -> usize
+// Puts the pieces of the first `count` lines into a row. Answers how many there are, or more than there is room for.
+fn put_pieces(row: &mut LiftedMap, above: &[u64], lines: [Line; MAX_LINES], count: usize) -> usize
     ensures { λ r. ⌜ piecesIn (now (row .exit)) r ≡ addedAll (some []) (piecesOf (linesIn (now (above .entry))) (take count lines)) ⌝ }
 {
     let end = given(count);
@@ -110,37 +110,36 @@ fn add_lines(row: &mut LiftedMap, above: &[u64], lines: [Line; MAX_LINES], count
     n
 }
 
-// The first `count` lines as they are, with their parent as the base.
-fn as_written(lines: [Line; MAX_LINES], count: usize, parent: u64) -> LiftedMap
-    ensures { λ r. ⌜ liftedIn r ≡ record { base = parent; lines = take count lines } ⌝ }
+// Makes a row the first `count` lines as they are, with their parent as the base.
+fn put_lines(row: &mut LiftedMap, lines: [Line; MAX_LINES], count: usize, parent: u64)
+    ensures { λ r. ⌜ liftedIn (now (row .exit)) ≡ record { base = parent; lines = take count lines } ⌝ }
 {
-    let mut row: LiftedMap = [0; 101];
     let end = given(count);
     let mut i: usize = 0;
     while i < end {
         let l = lines[i];
-        put(&mut row, i, l);
+        put(row, i, l);
         i += 1;
     }
-    put_head(&mut row, end, parent);
-    row
+    put_head(row, end, parent);
 }
 
-// The first `count` lines of a map, lifted over the lifted map of the parent, whose lines and base are given.
+// Makes a row the first `count` lines of a map, lifted over the lifted map of the parent, whose lines and base are given. What stood in the row does
+// not count.
 pub fn lift(
+    row: &mut LiftedMap,
     above: &[u64],
     base: u64,
     parent: u64,
     lines: [Line; MAX_LINES],
     count: usize,
-) -> LiftedMap
-    ensures { λ r. ⌜ liftedIn r ≡ liftedOf (record { base = base; lines = linesIn (now (above .entry)) }) parent (take count lines) ⌝ }
+)
+    ensures { λ r. ⌜ liftedIn (now (row .exit)) ≡ liftedOf (record { base = base; lines = linesIn (now (above .entry)) }) parent (take count lines) ⌝ }
 {
-    let mut row: LiftedMap = [0; 101];
-    let n = add_lines(&mut row, above, lines, count);
+    let n = put_pieces(row, above, lines, count);
     if MAX_PIECES < n {
-        return as_written(lines, count, parent);
+        put_lines(row, lines, count, parent);
+    } else {
+        put_head(row, n, base);
     }
-    put_head(&mut row, n, base);
-    row
 }

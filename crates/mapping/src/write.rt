@@ -13,6 +13,7 @@ use idmap::Translated;
 use idmap::cover::covered;
 use idmap::text::Parsed;
 use idmap::text::read_map;
+use lifted_map::LiftedMap;
 use lifted_map::lift::lift;
 use records::IdMap;
 use records::Kind;
@@ -184,7 +185,8 @@ fn write_lines(t: &mut Tables, kind: Kind, w: Process, n: u64, text: &[u8]) -> A
         };
         let above = lifted_lines(t, target.parent as usize, kind);
         let base = lifted_base(t, target.parent as usize, kind);
-        let lifted = lift(above, base, target.parent, lines, count);
+        let mut lifted: LiftedMap = [0; 101];
+        lift(&mut lifted, above, base, target.parent, lines, count);
         namespace_put(t, n as usize, with_map(kind, target, map));
         lifted_map_put(t, kind, n as usize, &lifted);
         Answer::Done

@@ -6,8 +6,8 @@ use Rattle.lifted_map.proofs.lift.lift.Tie as tie
 pub lift-spec : {M : Type 1} → statement M
 lift-spec =
     tie.close (tie.spec
-    (λ c κs. search adding)  -- add-lines-requires
-    (λ c κs. search adding)  -- as-written-requires
-    (λ c. search adding)  -- returns
+    (λ c κs. search adding)  -- put-pieces-requires
+    (λ c κs. search adding)  -- put-lines-requires
     (λ c κs. search adding)  -- put-head-requires
+    (λ c. search adding)  -- returns
     (λ c. search adding))  -- returns-2

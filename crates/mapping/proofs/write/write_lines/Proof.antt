@@ -7,13 +7,13 @@ returns-3 : tie.Need-returns-3
 returns-3 c =
     let stored = c .before .before .before in
     let lifted = stored .before .before .before in
-    let tested = lifted .before .before .before .before in
+    let tested = lifted .before .before .before .before .before in
     let target = tested .before .before .before .before in
     let allowed = target .before .before .before in
     let read = allowed .before .before .before in
     lines-done _ _ _ _ _ _ (read .before .before .before .read-map .ensures) _ (read .parsed .given .1) _ (allowed .may-map .ensures) (target .before .before .if1 .taken)
     _ (target .namespace-at .ensures) _ (tested .before .before .map-lines .ensures) _ (tested .before .all-covered .ensures) _ _ _ _ _ _ (tested .if2 .taken)
-    (lifted .before .before .lifted-lines .ensures) (lifted .before .lifted-base .ensures) (lifted .lift .ensures) (stored .before .with-map .ensures) (stored .namespace-put .ensures) (c .lifted-map-put .ensures)
+    (lifted .before .before .before .lifted-lines .ensures) (lifted .before .before .lifted-base .ensures) (lifted .lift .ensures) (stored .before .with-map .ensures) (stored .namespace-put .ensures) (c .lifted-map-put .ensures)
 
 pub write-lines-spec : {M : Type 1} → statement M
 write-lines-spec =

@@ -1,20 +1,20 @@
--- `lifted_map::lift::as_written` meets its contract. Assumes nothing.
+-- `lifted_map::lift::put_lines` meets its contract. Assumes nothing.
 use mathlib.Core.Path.{_≡_}
 use Prim.Native.Nat.{_≤_, _-_, min}
 use lib.ListN.{take}
 use Rattle.lifted_map.specs.Lift.{placesIn}
 use Rattle.lifted_map.proofs.Adding.{adding}
-use Rattle.lifted_map.proofs.lift.as_written.Statement.{statement}
-use Rattle.lifted_map.proofs.lift.as_written.Tie as tie
+use Rattle.lifted_map.proofs.lift.put_lines.Statement.{statement}
+use Rattle.lifted_map.proofs.lift.put_lines.Tie as tie
 
 abbrev Inv-loop : tie.InvT-loop
-Inv-loop count parent lines row₀ end i₀ row i = (end ≡ min count 5) × (i ≤ end) × (take i (placesIn row) ≡ take i lines)
+Inv-loop row₀ count parent lines end i₀ row i = (end ≡ min count 5) × (i ≤ end) × (take i (placesIn row) ≡ take i lines)
 
 abbrev μ-loop : tie.MeasureT-loop
-μ-loop count parent lines row₀ end i₀ row i = end - i
+μ-loop row₀ count parent lines end i₀ row i = end - i
 
-pub as-written-spec : {M : Type 1} → statement M
-as-written-spec =
+pub put-lines-spec : {M : Type 1} → statement M
+put-lines-spec =
     tie.close (tie.spec Inv-loop μ-loop
     (λ c κs. search adding)  -- given-requires
     (λ c. search adding)  -- loop-holds

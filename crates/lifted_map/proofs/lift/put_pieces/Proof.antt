@@ -1,4 +1,4 @@
--- `lifted_map::lift::add_lines` meets its contract. Assumes nothing.
+-- `lifted_map::lift::put_pieces` meets its contract. Assumes nothing.
 use mathlib.Core.Path.{_≡_}
 use mathlib.Core.List.{[]}
 use mathlib.Core.Option.{some}
@@ -8,8 +8,8 @@ use Rattle.idmap.specs.Line.{linesIn}
 use Rattle.lifted_map.specs.Adding.{piecesIn}
 use Rattle.lifted_map.proofs.Adding.{addedLines}
 use Rattle.lifted_map.proofs.Adding.{adding}
-use Rattle.lifted_map.proofs.lift.add_lines.Statement.{statement}
-use Rattle.lifted_map.proofs.lift.add_lines.Tie as tie
+use Rattle.lifted_map.proofs.lift.put_pieces.Statement.{statement}
+use Rattle.lifted_map.proofs.lift.put_pieces.Tie as tie
 
 abbrev Inv-loop : tie.InvT-loop
 Inv-loop row₀ above count lines end n₀ i₀ row n i = (end ≡ min count 5) × (addedLines (piecesIn row n) (linesIn above) (drop i (take count lines)) ≡ addedLines (some []) (linesIn above) (take count lines))
@@ -17,8 +17,8 @@ Inv-loop row₀ above count lines end n₀ i₀ row n i = (end ≡ min count 5) 
 abbrev μ-loop : tie.MeasureT-loop
 μ-loop row₀ above count lines end n₀ i₀ row n i = end - i
 
-pub add-lines-spec : {M : Type 1} → statement M
-add-lines-spec =
+pub put-pieces-spec : {M : Type 1} → statement M
+put-pieces-spec =
     tie.close (tie.spec Inv-loop μ-loop
     (λ c κs. search adding)  -- given-requires
     (λ c. search adding)  -- loop-holds
