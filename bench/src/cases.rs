@@ -247,6 +247,13 @@ fn credentials() -> Vec<Row> {
             &state::sixteen_groups(),
             Kernel::None,
         ),
+        set_groups(
+            "setgroups, 16 groups, 8 levels of 5 lines, each across",
+            &State::nested(8, Maps::EachAcross),
+            9,
+            &state::sixteen_groups(),
+            Kernel::None,
+        ),
         row(
             "capset",
             CALL,

@@ -79,7 +79,7 @@ impl Row {
         let misses = self.misses();
         let verdict = if misses.is_empty() { "met".to_string() } else { misses.join(", ") };
         format!(
-            "| {:<52} | {:>7} | {:>12} | {:>9} | {:>7} | {:>9} | {:>7} | {:>5} | {} |",
+            "| {:<54} | {:>7} | {:>12} | {:>9} | {:>7} | {:>9} | {:>7} | {:>5} | {} |",
             self.name,
             number(self.archive),
             format!("{} to {}", number(self.range.0), number(self.range.1)),
@@ -114,7 +114,7 @@ pub fn medians(rounds: &[Vec<Row>]) -> Vec<Row> {
 /// Prints the table and how many rows miss a goal.
 pub fn print(rows: &[Row]) {
     println!(
-        "| {:<52} | {:>7} | {:>12} | {:>9} | {:>7} | {:>9} | {:>7} | {:>5} | result |",
+        "| {:<54} | {:>7} | {:>12} | {:>9} | {:>7} | {:>9} | {:>7} | {:>5} | result |",
         "call", "archive", "rounds", "reference", "times", "kernel", "times", "goal"
     );
     println!(
