@@ -1,0 +1,97 @@
+//! Translation through 32 levels of random maps, against the reference program. The maps of a level cut the IDs into up to five
+//! pieces and put them into another order, so that their lines run across those above at random places.
+
+use oarhatchet::Tables;
+use reference::random::Random;
+use reference::{Answer, Call, Direction, Kind};
+
+mod common;
+
+use common::{outcome, outcome_on_reference, Outcome};
+
+/// How many IDs the maps have, from 0 on.
+const IDS: u64 = 500;
+/// Where their kernel IDs start, and how far the lines of level 1 lie apart.
+const KERNEL: u64 = 100_000;
+const GAP: u64 = 100;
+const LEVELS: u64 = 32;
+const CHAINS: u64 = 300;
+const KINDS: [Kind; 2] = [Kind::User, Kind::Group];
+
+/// A map of the IDs to as many in another order, for a level.
+fn map_text(random: &mut Random, level: u64) -> String {
+    let mut cuts: Vec<u64> = (0..random.below(5)).map(|_| 1 + random.below(IDS - 1)).collect();
+    cuts.extend([0, IDS]);
+    cuts.sort_unstable();
+    cuts.dedup();
+    let mut pieces: Vec<(u64, u64)> = cuts.windows(2).map(|w| (w[0], w[1] - w[0])).collect();
+    for last in (1..pieces.len()).rev() {
+        pieces.swap(last, random.index(last + 1));
+    }
+    let mut parent = if level == 1 { KERNEL } else { 0 };
+    let mut text = String::new();
+    for (inside, count) in pieces {
+        text += &format!("{inside} {parent} {count}\n");
+        parent += count + if level == 1 { GAP } else { 0 };
+    }
+    text
+}
+
+/// Both implementations, which have to come to the same.
+struct Both {
+    tables: Tables,
+    reference: reference::Tables,
+}
+
+impl Both {
+    fn make(&mut self, call: &Call) -> Answer {
+        let given = outcome(&mut self.tables, call);
+        assert_eq!(given, outcome_on_reference(&mut self.reference, call), "{call:?}");
+        match given {
+            Outcome::Answer(answer) => answer,
+            Outcome::Refused { number, .. } => panic!("{call:?} is refused with {number}"),
+        }
+    }
+
+    /// Makes a namespace below that of the process one level up, with such maps, and its process the root of it.
+    fn descend(&mut self, random: &mut Random, level: u64) {
+        let (caller, process) = (level, level + 1);
+        let made = Answer::ChildInNamespace { child: process, namespace: level };
+        assert_eq!(self.make(&Call::Clone { caller }), made);
+        for kind in KINDS {
+            let text = map_text(random, level).into_bytes();
+            self.make(&Call::WriteMap { kind, caller, process, text });
+        }
+        for kind in KINDS {
+            self.make(&Call::SetIds { kind, caller: process, ids: [0; 3] });
+        }
+    }
+
+    fn translate(&mut self, direction: Direction, kind: Kind, namespace: u64, id: u64) -> Answer {
+        self.make(&Call::Translate { kind, direction, caller: 1, namespace, id: id as u32 })
+    }
+}
+
+#[test]
+fn random_maps_translate_alike_at_every_level() {
+    for seed in 0..CHAINS {
+        let mut random = Random::new(seed);
+        let mut both = Both { tables: Tables::new(), reference: reference::Tables::initial() };
+        for level in 1..=LEVELS {
+            both.descend(&mut random, level);
+            for kind in KINDS {
+                for _ in 0..50 {
+                    let id = random.below(IDS);
+                    let out = both.translate(Direction::Out, kind, level, id);
+                    let Answer::Id(kernel) = out else { panic!("{id} is unmapped") };
+                    let back = both.translate(Direction::Back, kind, level, u64::from(kernel));
+                    assert_eq!(back, Answer::Id(id as u32));
+                    let near = KERNEL - GAP + random.below(IDS + 6 * GAP);
+                    both.translate(Direction::Back, kind, level, near);
+                }
+                both.translate(Direction::Out, kind, level, IDS);
+            }
+            both.make(&Call::GetIds { caller: level + 1 });
+        }
+    }
+}
