@@ -194,9 +194,9 @@ fn translation_goes_through_levels() {
 fn translation_goes_through_lines_across() {
     let mut tables = Tables::new();
     let mut caller = 1;
-    for level in 1..=32 {
-        let start = |line| if line == 0 { 0 } else { line * 1000 + (level - 1) * 15 };
-        let end = |line| if line == 4 { 5000 } else { start(line + 1) };
+    for level in 1..=32u32 {
+        let start = |line: u32| if line == 0 { 0 } else { line * 1000 + (level - 1) * 15 };
+        let end = |line: u32| if line == 4 { 5000 } else { start(line + 1) };
         let parent = |line| if level == 1 { 100_000 + line * 2000 } else { start(line) };
         let text: String = (0..5)
             .map(|line| format!("{} {} {}\n", start(line), parent(line), end(line) - start(line)))
