@@ -1,24 +1,28 @@
 -- Setgroups, in the words of the code: each law's premises are what a place knows. Assumes nothing.
-use Prim.Native.Nat.{ℕ, _+_, _-_, _≤_, _<_}
+use Prim.Native.Nat.{ℕ, zero, suc, _+_, _-_, _≤_, _<_}
 use mathlib.Core.Path.{_≡_, refl, sym, ap, _∙_}
 use mathlib.Core.Bool.{Bool, true, false, true≢false}
-use mathlib.Core.List.{List, []}
+use mathlib.Core.List.{List, [], _∷_, _++_, map, map-append}
 use mathlib.Core.Option.{Option, none, some}
+use native.Mathlib.Numerals.{add-one}
 use native.Mathlib.Omega.{arith}
-use lib.ListN.{length, take, drop, getD, set, replicate}
+use lib.Dec.{eqb}
+use lib.ListN.{length, take, drop, getD, set, replicate, length-map}
+use lib.Seq.{take-all, take-at, take-suc, take-suc-set}
 use borrow.Author.Needs.{needs}
 use borrow.Author.Tests.{lt-ltb, le-ltb}
-use Rattle.idmap.specs.declared.Line.{Line}
-use Rattle.idmap.specs.declared.Translated.{Translated}
-use Rattle.idmap.specs.declared.Translated.the-variants.{Id, Unmapped}
-use Rattle.idmap.proofs.Collecting.{allFrom, all-starts, all-ends, all-none, all-next, made-so-far}
-use Rattle.idmap.proofs.Collecting.{rest-empty as collected-rest}
+use Rattle.prelude.proofs.Tests.{by-test}
+use Rattle.prelude.proofs.Lists.{made-so-far, rest-empty}
+use Rattle.idmap.specs.Good.{noId}
+use Rattle.idmap.specs.Lookup.{idOr}
+use Rattle.idmap.specs.Text.{consOf, allOf}
+use Rattle.idmap.specs.Batch.{firstOf, allIds}
 use Rattle.records.specs.declared.Kind.the-variants.{Group}
 use Rattle.records.specs.declared.GroupList.{GroupList}
 use Rattle.records.specs.declared.Process.{Process}
 use Rattle.records.specs.declared.Namespace.{Namespace}
 use Rattle.records.specs.Records.{isWritten}
-use Rattle.tables.specs.Tables.{State, tablesOf, processAt, namespaceAt, putProcess, liftedAt}
+use Rattle.tables.specs.Tables.{State, tablesOf, processAt, namespaceAt, putProcess}
 use Rattle.tables.specs.Find.{processNamed}
 use Rattle.tables.specs.Reply.{Outcome, done, refuse, Promise}
 use Rattle.tables.specs.declared.find.Found.{Found}
@@ -26,53 +30,88 @@ use Rattle.tables.specs.declared.find.Found.the-variants.{At, Nothing}
 use Rattle.tables.specs.declared.answer.Errno.the-variants.{EPERM, ESRCH, EINVAL}
 use Rattle.tables.specs.declared.answer.Answer.the-variants.{Refused, Done}
 use Rattle.tables.proofs.Promises.{refuses, answers}
-use Rattle.hierarchy.specs.Walks.{toKernelBy, toKernel, capableIn}
-use Rattle.hierarchy.proofs.Translations.{to-own}
+use Rattle.hierarchy.specs.Walks.{itself, toKernel, capableIn}
+use Rattle.hierarchy.specs.Batch.{eachBy, toKernelEach}
+use Rattle.hierarchy.proofs.Batches.{known-kernel}
 use Rattle.credentials.specs.declared.groups.Listed.{Listed}
 use Rattle.credentials.specs.Calls.{toOption, groupList, withList, thenList, kernelGroups, listedOf, setGroupsOf}
 
--- ---- a list of groups, of which the first i are in place and the others empty
-pub no-groups : _≡_ {A = GroupList} (record { count = 0; ids = replicate 16 0 }) (groupList [])
-unfolding groupList
-no-groups = refl
+-- ---- group_list: the first i of the groups are in place, and the others are 0
+pub ListedTo : List ℕ → List ℕ → ℕ → Type 0
+ListedTo list ids i = (take i ids ≡ take i list) × (drop i ids ≡ replicate (16 - i) 0)
 
-module _ (ids : List ℕ) (i : ℕ) (long : length ids ≡ 16) (room : i ≤ 16) where
-  pub groups-so-far : drop i ids ≡ replicate (16 - i) 0 → _≡_ {A = GroupList} (record { count = i; ids = ids }) (groupList (take i ids))
-  unfolding groupList
-  groups-so-far rest = let m = made-so-far ids i 16 0 rest long room in rw (m .0, m .1)
+module _ (list : List ℕ) where
+  pub listed-starts : ListedTo list (replicate 16 0) 0
+  unfolding ListedTo
+  listed-starts = (refl, refl)
 
-pub rest-empty : (ids : List ℕ) (i x : ℕ) → i < 16 → drop i ids ≡ replicate (16 - i) 0 → drop (i + 1) (set ids i x) ≡ replicate (16 - (i + 1)) 0
-rest-empty ids i x h rest = collected-rest ids i 16 0 rest x h
+  module _ (ids : List ℕ) (i : ℕ) (inv : ListedTo list ids i) (long : length ids ≡ 16) (few : length list ≤ 16) where
+    pub listed-step : i < length list → ListedTo list (set ids i (getD list i 0)) (i + 1)
+    unfolding ListedTo
+    listed-step h = (
+      rw (add-one, take-suc-set ids i (getD list i 0) (omega arith), take-suc list i 0 h, inv .0),
+      rest-empty ids i 16 0 (inv .1) (getD list i 0) (omega arith),
+    )
+
+    pub listed-ends : length list ≤ i → i ≤ length list → _≡_ {A = GroupList} (record { count = i; ids = ids }) (groupList list)
+    unfolding ListedTo groupList
+    listed-ends h k =
+        let e : i ≡ length list = omega arith in
+        let so-far : take i ids ++ replicate (16 - i) 0 ≡ ids = made-so-far ids i 16 0 (inv .1) long (omega arith) .1 in
+        let whole : take i ids ≡ list = inv .0 ∙ take-all i list h in
+        rw (← so-far, whole, e)
 
 -- ---- kernel_groups
--- the kernel IDs of a list, of which the first i are in ids
-pub kernelFrom : State → ℕ → List ℕ → List ℕ → ℕ → Option (List ℕ)
-kernelFrom s n list ids i = allFrom (λ (x : ℕ). toOption (toKernel s Group n x)) list ids i
+module _ (s : State) (n : ℕ) where
+  -- the kernel ID of a group, or 'no ID'
+  kernelOr : ℕ → ℕ
+  kernelOr x = idOr noId (toKernel s Group n x)
 
-module _ (s : State) (n : ℕ) (list ids : List ℕ) where
-  pub kernel-starts : kernelGroups s n list ≡ kernelFrom s n list ids 0
-  unfolding kernelFrom kernelGroups
-  kernel-starts = all-starts _ list ids
+  option-is : (x : ℕ) → toOption (toKernel s Group n x) ≡ toOption (itself (kernelOr x))
+  unfolding kernelOr
+  option-is x = ap toOption (known-kernel s Group n x)
 
-  module _ (i : ℕ) (inv : kernelGroups s n list ≡ kernelFrom s n list ids i) where
-    pub kernel-ends : length list ≤ i → length list ≤ 16 → i ≤ length list → length ids ≡ 16 → drop i ids ≡ replicate (16 - i) 0
-        → _≡_ {A = Listed} (record { mapped = true; groups = record { count = i; ids = ids } }) (listedOf (kernelGroups s n list))
-    unfolding kernelFrom kernelGroups
-    kernel-ends h k b long rest =
-        let so-far : _≡_ {A = GroupList} (record { count = i; ids = ids }) (groupList (take i ids)) = groups-so-far ids i long (omega arith) rest in
-        rw (all-ends _ list ids i inv h, so-far)
+  zeros-ids : (k : ℕ) → allIds (replicate k 0) ≡ true
+  unfolding allIds
+  zeros-ids zero = refl
+  zeros-ids (suc k) = zeros-ids k
 
-    module _ (h : i < length list) (r : Translated) (ls : List Line) (b : ℕ) (lines : ls ≡ liftedAt s Group n .lines) (base : b ≡ liftedAt s Group n .base) (lifted : r ≡ toKernelBy s Group (record { base = b; lines = ls }) n (getD list i 0)) where
-      found : r ≡ toKernel s Group n (getD list i 0)
-      found = to-own s Group ls b n (getD list i 0) r lines base lifted
+  module _ (k : ℕ) where
+    -- none of them is 'no ID'
+    every-group : (list : List ℕ) → allIds (map kernelOr list ++ replicate k 0) ≡ true → kernelGroups s n list ≡ some (map kernelOr list)
+    unfolding kernelGroups allOf consOf allIds
+    every-group [] e = refl
+    every-group (x ∷ list) e =
+        by-test (eqb (kernelOr x) noId)
+        (λ t. absurd (true≢false (sym e ∙ rw t)))
+        (λ t. rw (option-is x, t, every-group list (rw t at e)))
 
-      pub kernel-unmapped : (a : Listed) → r ≡ Unmapped → a ≡ listedOf none → a ≡ listedOf (kernelGroups s n list)
-      unfolding kernelFrom kernelGroups
-      kernel-unmapped a e q = q ∙ sym (ap listedOf (all-none _ list ids i inv 0 h (ap toOption (sym found ∙ e))))
+    -- one is
+    some-group : (list : List ℕ) → allIds (map kernelOr list ++ replicate k 0) ≡ false → kernelGroups s n list ≡ none
+    unfolding kernelGroups allOf consOf allIds
+    some-group [] e = absurd (true≢false (sym (zeros-ids k) ∙ e))
+    some-group (x ∷ list) e =
+        by-test (eqb (kernelOr x) noId)
+        (λ t. rw (option-is x, t))
+        (λ t. rw (option-is x, t, some-group list (rw t at e)))
 
-      pub kernel-next : (x : ℕ) → r ≡ Id x → length list ≤ 16 → length ids ≡ 16 → kernelGroups s n list ≡ kernelFrom s n list (set ids i x) (i + 1)
-      unfolding kernelFrom kernelGroups
-      kernel-next x e k long = all-next _ list ids i inv 0 h x (ap toOption (sym found ∙ e)) (omega arith)
+  module _ (list : List ℕ) (given : GroupList) (kernel : List ℕ) (t : Bool) (read : given ≡ groupList list)
+      (found : kernel ≡ toKernelEach s Group n (length list) (given .ids)) (tested : t ≡ allIds kernel) where
+    -- the kernel IDs of the list, and then zeros
+    kernel-is : kernel ≡ map kernelOr list ++ replicate (16 - length list) 0
+    unfolding eachBy firstOf groupList kernelOr
+    kernel-is =
+        found
+        ∙ rw (read, map-append kernelOr list (replicate (16 - length list) 0), take-at (map kernelOr list) (map kernelOr (replicate (16 - length list) 0)) (length list) (length-map list kernelOr))
+
+    pub kernel-listed : t ≡ true → _≡_ {A = Listed} (record { mapped = true; groups = record { count = given .count; ids = kernel } }) (listedOf (kernelGroups s n list))
+    unfolding groupList
+    kernel-listed e =
+        rw (every-group (16 - length list) list (ap allIds (sym kernel-is) ∙ sym tested ∙ e), read, kernel-is, length-map list kernelOr)
+
+    pub kernel-unlisted : (a : Listed) → t ≡ false → a ≡ listedOf none → a ≡ listedOf (kernelGroups s n list)
+    kernel-unlisted a e q =
+        q ∙ sym (ap listedOf (some-group (16 - length list) list (ap allIds (sym kernel-is) ∙ sym tested ∙ e)))
 
 -- ---- none_listed, with_list
 pub listed-none : _≡_ {A = Listed} (record { mapped = false; groups = record { count = 0; ids = replicate 16 0 } }) (listedOf none)
@@ -147,11 +186,11 @@ module _ (l : List ℕ) (c : ℕ) (list : List ℕ) (r : Found) (named : r ≡ p
                 (rw (put, made) (after-some (tablesOf l) i p listed (kernelGroups (tablesOf l) (p .namespace) list) got t ∙ sym groups-listed))
 
 pub ruleset grouping = (
-  rest-empty,
-  kernel-starts,
-  kernel-ends,
-  kernel-unmapped,
-  kernel-next,
+  listed-starts,
+  listed-step,
+  listed-ends,
+  kernel-listed,
+  kernel-unlisted,
   listed-none,
   list-made,
   groups-nobody,

@@ -1,15 +1,18 @@
 -- A process's own IDs, in the words of the code: each law's premises are what a place knows. Assumes nothing.
-use Prim.Native.Nat.{ℕ, _+_, _-_, _≤_, _<_}
+use Prim.Native.Nat.{ℕ, _≤_, _<_, min}
 use mathlib.Core.Path.{_≡_, refl, sym, ap, _∙_}
-use mathlib.Core.List.{List, [], _∷_, _++_, map}
-use native.Mathlib.Numerals.{add-one}
+use mathlib.Core.List.{List, map}
 use native.Mathlib.Omega.{arith}
-use lib.ListN.{length, take, drop, getD, set, replicate}
-use lib.Seq.{take-all, take-suc, take-suc-set}
+use lib.Dec.{leb}
+use lib.ListN.{length, take, replicate, length-map}
+use lib.Seq.{length-take-le, take-all}
 use borrow.Author.Needs.{needs}
+use borrow.Author.Tests.{leb-true, leb-false}
+use Rattle.prelude.proofs.Tests.{by-test}
+use Rattle.prelude.proofs.Lists.{take-map}
 use Rattle.idmap.specs.declared.Line.{Line}
 use Rattle.idmap.specs.declared.Translated.{Translated}
-use Rattle.idmap.specs.declared.Translated.the-variants.{Id, Unmapped}
+use Rattle.idmap.specs.Batch.{firstOf}
 use Rattle.records.specs.declared.Kind.{Kind}
 use Rattle.records.specs.declared.Kind.the-variants.{User, Group}
 use Rattle.records.specs.declared.Ids.{Ids}
@@ -22,18 +25,12 @@ use Rattle.tables.specs.declared.find.Found.the-variants.{At, Nothing}
 use Rattle.tables.specs.declared.answer.Errno.the-variants.{ESRCH}
 use Rattle.tables.specs.declared.answer.Answer.the-variants.{Refused, Own}
 use Rattle.hierarchy.specs.Walks.{fromKernelBy, fromKernel}
+use Rattle.hierarchy.specs.Batch.{eachBy, fromKernelEach}
 use Rattle.hierarchy.proofs.Translations.{from-own}
 use Rattle.credentials.specs.declared.own.OwnIds.{OwnIds}
 use Rattle.credentials.specs.Calls.{shownAs, seen, seenIds, noIds, groupList, seenGroups, ownIdsOf}
-use Rattle.credentials.proofs.GroupLists.{groups-so-far, rest-empty}
 
 -- ---- an ID, and three
-pub shown-id : (r : Translated) (x : ℕ) → r ≡ Id x → x ≡ shownAs r
-shown-id r x e = rw e
-
-pub shown-none : (r : Translated) → r ≡ Unmapped → 65534 ≡ shownAs r
-shown-none r e = rw e
-
 pub shown-by : (r f : Translated) (v : ℕ) → v ≡ shownAs r → r ≡ f → v ≡ shownAs f
 shown-by r f v e q = e ∙ ap shownAs q
 
@@ -44,42 +41,17 @@ pub seen-three : (s : State) (kind : Kind) (n : ℕ) (i : Ids) (a b d : ℕ) →
     → d ≡ seen s kind n (i .saved) → record { real = a; effective = b; saved = d } ≡ seenIds s kind n i
 seen-three s kind n i a b d p q r = λ j. record { real = p j; effective = q j; saved = r j }
 
--- ---- the list, of which the first i are in place
-map-append : {A B : Type 0} (f : A → B) (xs ys : List A) → map f (xs ++ ys) ≡ map f xs ++ map f ys
-map-append f [] ys = refl
-map-append {B = B} f (x ∷ xs) ys = ap (λ (l : List B). f x ∷ l) (map-append f xs ys)
-
-module _ (s : State) (n : ℕ) where
-  -- the first i of the kernel IDs, as the namespace sees them
-  pub SeenTo : List ℕ → List ℕ → ℕ → Type 0
-  SeenTo kernel ids i = take i ids ≡ map (seen s Group n) (take i kernel)
-
-  pub seen-starts : (kernel ids : List ℕ) → SeenTo kernel ids 0
-  unfolding SeenTo
-  seen-starts kernel ids = refl
-
-  pub seen-next : (kernel ids : List ℕ) (i x : ℕ) (ls : List Line) (b : ℕ) → SeenTo kernel ids i → i < 16 → length kernel ≡ 16 → length ids ≡ 16
-      → ls ≡ liftedAt s Group n .lines → b ≡ liftedAt s Group n .base → x ≡ shownAs (fromKernelBy s Group (record { base = b; lines = ls }) n (getD kernel i 0))
-      → SeenTo kernel (set ids i x) (i + 1)
-  unfolding SeenTo
-  seen-next kernel ids i x ls b inv h k long lines base q =
-      let e = seen-is s Group ls b n (getD kernel i 0) x lines base q in
-      rw (add-one, take-suc-set ids i x (omega arith), take-suc kernel i 0 (omega arith), map-append (seen s Group n) (take i kernel) (getD kernel i 0 ∷ []), inv, e)
-
-  module _ (g : GroupList) (ids : List ℕ) (i : ℕ) (inv : SeenTo (g .ids) ids i) (b : i ≤ g .count) (room : i ≤ 16) (long : length ids ≡ 16)
-      (rest : drop i ids ≡ replicate (16 - i) 0) where
-    pub seen-count : g .count ≤ i → record { count = i; ids = ids } ≡ seenGroups s n g
-    unfolding SeenTo seenGroups
-    seen-count h =
-        let e : g .count ≡ i = omega arith in
-        rw (e, ← inv) (groups-so-far ids i long room rest)
-
-    pub seen-all : 16 ≤ i → length (g .ids) ≡ 16 → record { count = 16; ids = ids } ≡ seenGroups s n g
-    unfolding SeenTo seenGroups
-    seen-all h k =
-        let e : 16 ≡ i = omega arith in
-        let front : take (g .count) (g .ids) ≡ take i (g .ids) = take-all (g .count) (g .ids) (omega arith) ∙ sym (take-all i (g .ids) (omega arith)) in
-        rw (e, front, ← inv) (groups-so-far ids i long room rest)
+-- ---- the list
+pub seen-groups-are : (s : State) (n : ℕ) (g : GroupList) (count : ℕ) (ids : List ℕ) → length (g .ids) ≡ 16 → count ≡ min (g .count) 16
+    → ids ≡ fromKernelEach s Group n 65534 count (g .ids) → record { count = count; ids = ids } ≡ seenGroups s n g
+unfolding seenGroups groupList eachBy firstOf
+seen-groups-are s n g count ids long few e =
+    let front : take (g .count) (g .ids) ≡ take count (g .ids) =
+        by-test (leb (g .count) 16)
+        (λ t. let h : g .count ≤ 16 = leb-true (g .count) 16 t in let q : g .count ≡ count = omega arith in ap (λ (k : ℕ). take k (g .ids)) q)
+        (λ t. let h : 16 < g .count = leb-false (g .count) 16 t in take-all (g .count) (g .ids) (omega arith) ∙ sym (take-all count (g .ids) (omega arith))) in
+    let many : length (map (seen s Group n) (take count (g .ids))) ≡ count = length-map (take count (g .ids)) (seen s Group n) ∙ length-take-le count (g .ids) (omega arith) in
+    rw (front, many, e, take-map (seen s Group n) count (g .ids))
 
 -- ---- the call
 module _ (s : State) (c : ℕ) (r : Found) (named : r ≡ processNamed s c) where
@@ -94,4 +66,4 @@ module _ (s : State) (c : ℕ) (r : Found) (named : r ≡ processNamed s c) wher
   unfolding ownIdsOf
   own-found i p a b g at read ea eb eg = rw (← named, at, ← read, ea, eb, eg)
 
-pub ruleset showing = (shown-id, shown-none, shown-by, seen-is, seen-three, rest-empty, seen-starts, seen-next, seen-count, seen-all, own-nobody, own-found, needs)
+pub ruleset showing = (shown-by, seen-is, seen-three, seen-groups-are, own-nobody, own-found, needs)

@@ -10,6 +10,7 @@ use Rattle.capability.specs.Sets.{emptySet, isWithin}
 use Rattle.idmap.specs.declared.Translated.{Translated}
 use Rattle.idmap.specs.declared.Translated.the-variants.{Id, Unmapped}
 use Rattle.idmap.specs.Good.{noId}
+use Rattle.idmap.specs.Lookup.{idOr}
 use Rattle.idmap.specs.Text.{allOf}
 use Rattle.records.specs.declared.Kind.{Kind}
 use Rattle.records.specs.declared.Kind.the-variants.{User, Group}
@@ -171,8 +172,7 @@ dropOf s c permitted effective =
 
 -- ---- own IDs, as seen in the process's namespace; an untranslatable one shows as 65534
 abbrev pub shownAs : Translated → ℕ
-shownAs (Id x) = x
-shownAs Unmapped = 65534
+shownAs r = idOr 65534 r
 
 abbrev pub seen : State → Kind → ℕ → ℕ → ℕ
 seen s kind n x = shownAs (fromKernel s kind n x)

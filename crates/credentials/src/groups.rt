@@ -5,10 +5,10 @@ ghost use Prim.Native.Nat.{_≤_};
 ghost use lib.ListN.{length};
 ghost use Rattle.tables.specs.Tables.{tablesOf};
 ghost use Rattle.tables.specs.Reply.{Promise};
-ghost use Rattle.credentials.specs.Calls.{withList, kernelGroups, listedOf, setGroupsOf};
+ghost use Rattle.credentials.specs.Calls.{groupList, withList, kernelGroups, listedOf, setGroupsOf};
+use hierarchy::batch::to_kernel_each;
 use hierarchy::capable::capable;
-use hierarchy::translate::to_kernel_by;
-use idmap::Translated;
+use idmap::batch::all_ids;
 use records::GroupList;
 use records::Kind;
 use records::Process;
@@ -18,8 +18,6 @@ use tables::answer::Answer;
 use tables::answer::Errno;
 use tables::find::Found;
 use tables::find::find_process;
-use tables::lifted_maps::lifted_base;
-use tables::lifted_maps::lifted_lines;
 use tables::namespaces::namespace_at;
 use tables::processes::process_at;
 use tables::processes::process_put;
@@ -42,29 +40,41 @@ fn none_listed() -> Listed
     }
 }
 
+// A list of at most 16 groups, with 0 in the places past its end.
+fn group_list(list: &[u32]) -> GroupList
+    requires { ⌜ length (now list) ≤ 16 ⌝ }
+    ensures { λ r. ⌜ r ≡ groupList (now (list .entry)) ⌝ }
+{
+    let mut ids = [0u32; 16];
+    let mut i: usize = 0;
+    while i < list.len() {
+        ids[i] = list[i];
+        i += 1;
+    }
+    GroupList {
+        count: i as u64,
+        ids: ids,
+    }
+}
+
 // The kernel IDs of at most 16 groups, in order.
 fn kernel_groups(t: &Tables, namespace: u64, list: &[u32]) -> Listed
     requires { ⌜ length (now list) ≤ 16 ⌝ }
     ensures { λ r. ⌜ r ≡ listedOf (kernelGroups (tablesOf (now (t .entry))) «namespace» (now (list .entry))) ⌝ }
 {
-    let lines = lifted_lines(t, namespace as usize, Kind::Group);
-    let base = lifted_base(t, namespace as usize, Kind::Group);
-    let mut ids = [0u32; 16];
-    let mut i: usize = 0;
-    while i < list.len() {
-        let r = to_kernel_by(t, Kind::Group, lines, base, namespace, list[i]);
-        let Translated::Id(x) = r else {
-            return none_listed();
-        };
-        ids[i] = x;
-        i += 1;
-    }
-    Listed {
-        mapped: true,
-        groups: GroupList {
-            count: i as u64,
-            ids: ids,
-        },
+    let given = group_list(list);
+    let ids = given.ids;
+    let kernel = to_kernel_each(t, Kind::Group, namespace, ids, list.len());
+    if all_ids(kernel) {
+        Listed {
+            mapped: true,
+            groups: GroupList {
+                count: given.count,
+                ids: kernel,
+            },
+        }
+    } else {
+        none_listed()
     }
 }
 

@@ -1,11 +1,13 @@
 // A process's own IDs, as seen in its namespace.
 ghost use mathlib.Core.Path.{_≡_};
+ghost use Prim.Native.Nat.{min};
 ghost use Rattle.idmap.specs.Line.{linesIn};
 ghost use Rattle.tables.specs.Tables.{tablesOf};
 ghost use Rattle.hierarchy.specs.Walks.{fromKernelBy};
 ghost use Rattle.credentials.specs.Calls.{shownAs, seenIds, seenGroups, ownIdsOf};
+use hierarchy::batch::from_kernel_each;
 use hierarchy::translate::from_kernel_by;
-use idmap::Translated;
+use idmap::lookup::id_or;
 use records::GroupList;
 use records::Ids;
 use records::Kind;
@@ -26,21 +28,11 @@ pub struct OwnIds {
     pub supplementary: GroupList,
 }
 
-// An ID, or 65534 where there is none.
-fn shown_as(r: Translated) -> u32
-    ensures { λ x. ⌜ x ≡ shownAs r ⌝ }
-{
-    match r {
-        Translated::Id(x) => x,
-        Translated::Unmapped => 65534,
-    }
-}
-
 // A kernel ID as a namespace sees it, by the lines and the base of its lifted map.
 fn seen_by(t: &Tables, kind: Kind, lines: &[u64], base: u64, namespace: u64, id: u32) -> u32
     ensures { λ r. ⌜ r ≡ shownAs (fromKernelBy (tablesOf (now (t .entry))) kind (record { base = base; lines = linesIn (now (lines .entry)) }) «namespace» id) ⌝ }
 {
-    shown_as(from_kernel_by(t, kind, lines, base, namespace, id))
+    id_or(from_kernel_by(t, kind, lines, base, namespace, id), 65534)
 }
 
 fn seen_ids(t: &Tables, kind: Kind, namespace: u64, ids: Ids) -> Ids
@@ -58,29 +50,23 @@ fn seen_ids(t: &Tables, kind: Kind, namespace: u64, ids: Ids) -> Ids
     }
 }
 
+// As many groups as are listed, 16 at most.
+fn listed(count: u64) -> usize
+    ensures { λ r. ⌜ r ≡ min count 16 ⌝ }
+{
+    if count < 16 { count as usize } else { 16 }
+}
+
 // The supplementary groups in order.
 fn seen_groups(t: &Tables, namespace: u64, groups: GroupList) -> GroupList
     ensures { λ r. ⌜ r ≡ seenGroups (tablesOf (now (t .entry))) «namespace» groups ⌝ }
 {
-    let lines = lifted_lines(t, namespace as usize, Kind::Group);
-    let base = lifted_base(t, namespace as usize, Kind::Group);
     let kernel = groups.ids;
-    let listed = groups.count;
-    let mut ids = [0u32; 16];
-    let mut i: usize = 0;
-    while i < 16 {
-        if listed <= i as u64 {
-            return GroupList {
-                count: i as u64,
-                ids: ids,
-            };
-        }
-        ids[i] = seen_by(t, Kind::Group, lines, base, namespace, kernel[i]);
-        i += 1;
-    }
+    let count = listed(groups.count);
+    let seen = from_kernel_each(t, Kind::Group, namespace, kernel, count, 65534);
     GroupList {
-        count: 16,
-        ids: ids,
+        count: count as u64,
+        ids: seen,
     }
 }
 

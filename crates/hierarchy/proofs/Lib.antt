@@ -1,2 +1,3 @@
 pub mod Translations
 pub mod Capability
+pub mod Batches

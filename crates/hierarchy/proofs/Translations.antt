@@ -59,6 +59,11 @@ module _ (s : State) (kind : Kind) where
     unfolding toKernelBy
     to-root z e = e ∙ sym (rw (eq-eqb n 0 z))
 
+    -- to the initial namespace, at once
+    pub to-first : (n ≡ 0 → ⊥) → b ≤ 0 → toKernelBy s kind (record { base = b; lines = ls }) n x ≡ thenId (out ls x) itself
+    unfolding toKernelBy
+    to-first below h = rw (ne-eqb n 0 below) (ap (thenId (out ls x)) (λ i y. out-root 31 b y (omega arith) i))
+
     module _ (below : n ≡ 0 → ⊥) (f : Translated) (found : f ≡ out ls x) where
       pub to-none : f ≡ Unmapped → Unmapped ≡ toKernelBy s kind (record { base = b; lines = ls }) n x
       unfolding toKernelBy
@@ -114,7 +119,7 @@ module _ (s : State) (kind : Kind) where
       from-lower r e = e ∙ sym (rw (ne-eqb n 0 below))
 
       -- from the initial namespace, at once
-      from-first : b ≤ 0 → fromKernelBy s kind (record { base = b; lines = ls }) n y ≡ thenId (itself y) (back ls)
+      pub from-first : b ≤ 0 → fromKernelBy s kind (record { base = b; lines = ls }) n y ≡ thenId (itself y) (back ls)
       unfolding fromKernelBy
       from-first h = rw (ne-eqb n 0 below) (ap (λ (t : Translated). thenId t (back ls)) (back-root 31 b y (omega arith)))
 

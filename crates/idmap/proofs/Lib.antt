@@ -1,11 +1,11 @@
 pub mod Words
 pub mod Lookups
+pub mod Batches
 pub mod Overlaps
 pub mod Interval
 pub mod Goodness
 pub mod Translation
 pub mod Covers
-pub mod Collecting
 pub mod Scans
 pub mod Fields
 pub mod FirstLine

@@ -16,7 +16,7 @@ use Rattle.idmap.specs.Lookup.{movedBy, out, flip, facingOf, back, reach
 use Rattle.idmap.proofs.Words.{lines-step, lines-end}
 
 -- in_range
-less-is : (id start d : ℕ) → (d + start) % 2 ^ 32 ≡ id → d < 2 ^ 32 → start < 2 ^ 32 → d ≡ less id start
+pub less-is : (id start d : ℕ) → (d + start) % 2 ^ 32 ≡ id → d < 2 ^ 32 → start < 2 ^ 32 → d ≡ less id start
 less-is id start d e h k = omega arith
 
 pub in-range-is : (id start count d : ℕ) → (d + start) % 2 ^ 32 ≡ id → d < 2 ^ 32 → start < 2 ^ 32 → ltb d count ≡ inRange id start count

@@ -1,5 +1,6 @@
 pub mod Line
 pub mod Lookup
+pub mod Batch
 pub mod Good
 pub mod Cover
 pub mod Text

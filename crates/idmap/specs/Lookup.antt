@@ -21,6 +21,11 @@ abbrev pub thenId : Translated → (ℕ → Translated) → Translated
 thenId (Id x) next = next x
 thenId Unmapped next = Unmapped
 
+-- an ID, or another value where there is none
+abbrev pub idOr : ℕ → Translated → ℕ
+idOr other (Id x) = x
+idOr other Unmapped = other
+
 -- a line with its two sides exchanged, and the same where a flag asks for it
 abbrev pub flip : Line → Line
 flip l = record { inside = l .parent; parent = l .inside; count = l .count }

@@ -4,7 +4,7 @@ ghost use mathlib.Core.List.{map};
 ghost use Prim.Native.Nat.{_+_, _<_};
 ghost use lib.ListN.{length};
 ghost use Rattle.idmap.specs.Line.{inRange, lineAt, linesIn};
-ghost use Rattle.idmap.specs.Lookup.{facingOf, movedBy, out, back, reachOf};
+ghost use Rattle.idmap.specs.Lookup.{facingOf, movedBy, out, back, idOr, reachOf};
 use crate::Line;
 use crate::Translated;
 
@@ -16,7 +16,7 @@ pub fn in_range(id: u32, start: u32, count: u32) -> bool
 }
 
 // The line whose three words stand from place `at` on.
-fn line_at(words: &[u64], at: usize) -> Line
+pub(crate) fn line_at(words: &[u64], at: usize) -> Line
     requires { ⌜ at + 2 < length (now words) ⌝ }
     ensures { λ r. ⌜ r ≡ lineAt (now (words .entry)) at ⌝ }
 {
@@ -28,7 +28,7 @@ fn line_at(words: &[u64], at: usize) -> Line
 }
 
 // The line itself, or with its two sides exchanged.
-fn facing(l: Line, backward: bool) -> Line
+pub(crate) fn facing(l: Line, backward: bool) -> Line
     ensures { λ r. ⌜ r ≡ facingOf backward l ⌝ }
 {
     if backward {
@@ -76,6 +76,16 @@ pub fn lookup_back(words: &[u64], id: u32) -> Translated
     ensures { λ r. ⌜ r ≡ back (linesIn (now (words .entry))) id ⌝ }
 {
     first(words, id, true)
+}
+
+// The ID that a lookup finds, or `other` where it finds none.
+pub fn id_or(r: Translated, other: u32) -> u32
+    ensures { λ x. ⌜ x ≡ idOr other r ⌝ }
+{
+    match r {
+        Translated::Id(x) => x,
+        Translated::Unmapped => other,
+    }
 }
 
 // How many IDs, from `id` to the end of the first line that holds it, are in that line; 0 where no line holds it.

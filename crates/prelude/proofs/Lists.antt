@@ -1,12 +1,13 @@
--- The first n elements of a list, from index i on: what a loop over them has left. Assumes nothing.
-use mathlib.Core.Path.{_≡_, sym, _∙_}
-use mathlib.Core.List.{List, [], _∷_}
-use Prim.Native.Nat.{ℕ, _+_, _<_, _≤_, min}
+-- Loops over lists: what a loop over the first n elements has left, and what one that fills a list has made so far. Assumes nothing.
+use mathlib.Core.Path.{_≡_, refl, sym, ap, _∙_}
+use mathlib.Core.List.{List, [], _∷_, _++_, map, zipWith}
+use Prim.Native.Nat.{ℕ, zero, suc, _+_, _-_, _<_, _≤_, min}
 use native.Mathlib.Numerals.{add-one}
 use native.Mathlib.Omega.{arith}
-use lib.ListN.{length, take, drop, getD, set, length-take, drop-of-length-le}
-use lib.Seq.{drop-cons, getD-take, take-all, take-suc, take-suc-set}
+use lib.ListN.{length, take, drop, getD, set, replicate, length-take, take-append-drop, drop-of-length-le}
+use lib.Seq.{drop-cons, drop-drop, drop-set-lt, getD-take, length-take-le, take-all, take-suc, take-suc-set}
 
+-- the first n elements of a list, from index i on
 module _ {A : Type 0} (l : List A) (n i : ℕ) where
   -- the element at i, and what is left after it
   pub left-step : (d : A) → i < n → i < length l → drop i (take n l) ≡ getD l i d ∷ drop (i + 1) (take n l)
@@ -25,3 +26,52 @@ module _ {A : Type 0} (l t : List A) (i n : ℕ) (front : take i t ≡ take i l)
 
   pub copy-all : n ≤ i → t ≡ l
   copy-all h = sym (take-all i t (omega arith)) ∙ front ∙ take-all i l (omega arith)
+
+-- two lists that are joined element by element
+length-zip : {A B C : Type 0} (f : A → B → C) (xs : List A) (ys : List B) → length ys ≡ length xs → length (zipWith f xs ys) ≡ length xs
+unfolding zipWith
+length-zip f [] ys e = refl
+length-zip f (x ∷ xs) [] e = absurd (omega arith)
+length-zip f (x ∷ xs) (y ∷ ys) e = ap suc (length-zip f xs ys (omega arith))
+
+getD-zip : {A B C : Type 0} (f : A → B → C) (xs : List A) (ys : List B) (i : ℕ) (a : A) (b : B) (c : C) → i < length xs → i < length ys
+    → getD (zipWith f xs ys) i c ≡ f (getD xs i a) (getD ys i b)
+unfolding zipWith
+getD-zip f [] ys i a b c h k = absurd (omega arith)
+getD-zip f (x ∷ xs) [] i a b c h k = absurd (omega arith)
+getD-zip f (x ∷ xs) (y ∷ ys) zero a b c h k = refl
+getD-zip f (x ∷ xs) (y ∷ ys) (suc i) a b c h k = getD-zip f xs ys i a b c (omega arith) (omega arith)
+
+-- with what a function makes of the first list
+pub zip-map : {A B C : Type 0} (f : A → B → C) (g : A → B) (xs : List A) → zipWith f xs (map g xs) ≡ map (λ (x : A). f x (g x)) xs
+unfolding zipWith
+zip-map f g [] = refl
+zip-map {C = C} f g (x ∷ xs) = ap (λ (l : List C). f x (g x) ∷ l) (zip-map f g xs)
+
+pub take-map : {A B : Type 0} (f : A → B) (n : ℕ) (xs : List A) → take n (map f xs) ≡ map f (take n xs)
+take-map f zero xs = refl
+take-map f (suc n) [] = refl
+take-map {B = B} f (suc n) (x ∷ xs) = ap (λ (l : List B). f x ∷ l) (take-map f n xs)
+
+-- a loop that joins them: the first i are in place
+module _ {A B C : Type 0} (f : A → B → C) (xs : List A) (ys : List B) (t : List C) (i n : ℕ) (front : take i t ≡ take i (zipWith f xs ys)) (long : length t ≡ n)
+    (one : length xs ≡ n) (other : length ys ≡ n) where
+  pub zip-step : (a : A) (b : B) (v : C) → i < n → v ≡ f (getD xs i a) (getD ys i b) → take (i + 1) (set t i v) ≡ take (i + 1) (zipWith f xs ys)
+  zip-step a b v h e =
+      let all : length (zipWith f xs ys) ≡ n = length-zip f xs ys (omega arith) ∙ one in
+      let at : getD (zipWith f xs ys) i v ≡ v = getD-zip f xs ys i a b v (omega arith) (omega arith) ∙ sym e in
+      ap (λ (w : C). take (i + 1) (set t i w)) (sym at) ∙ copy-step (zipWith f xs ys) t i n front long all v h
+
+  pub zip-all : n ≤ i → t ≡ zipWith f xs ys
+  zip-all h = copy-all (zipWith f xs ys) t i n front long (length-zip f xs ys (omega arith) ∙ one) h
+
+-- an array of n, of which the first i are made and the others are empty
+module _ {A : Type 0} (made : List A) (i n : ℕ) (z : A) (rest : drop i made ≡ replicate (n - i) z) where
+  pub made-so-far : length made ≡ n → i ≤ n → (length (take i made) ≡ i) × (take i made ++ replicate (n - i) z ≡ made)
+  made-so-far long room = (length-take-le i made (omega arith), rw rest at (take-append-drop i made))
+
+  pub rest-empty : (x : A) → i < n → drop (i + 1) (set made i x) ≡ replicate (n - (i + 1)) z
+  rest-empty x h =
+      let q : n - i ≡ suc (n - (i + 1)) = omega arith in
+      let e : drop i made ≡ replicate (suc (n - (i + 1))) z = rw q at rest in
+      drop-set-lt (i + 1) made i x (omega arith) ∙ sym (drop-drop 1 i made) ∙ ap (drop 1) e

@@ -1,0 +1,102 @@
+// Lookups of sixteen IDs at once through the lines of one map. Each line is tested against all of them, which a processor does for several IDs in one
+// step and without a branch, so that the time depends on the number of lines alone.
+ghost use mathlib.Core.Path.{_≡_};
+ghost use mathlib.Core.List.{map, zipWith};
+ghost use Rattle.idmap.specs.Line.{linesIn};
+ghost use Rattle.idmap.specs.Lookup.{facingOf};
+ghost use Rattle.idmap.specs.Batch.{movedOr, outEach, backEach, keptAt, firstOf, allIds};
+use crate::Line;
+use crate::lookup::facing;
+use crate::lookup::line_at;
+
+// Sixteen IDs, as many as a process has supplementary groups.
+pub type Batch = [u32; 16];
+
+// What `l` gives for an `id` that it holds, else `other`.
+fn moved_or(l: Line, id: u32, other: u32) -> u32
+    ensures { λ r. ⌜ r ≡ movedOr l id other ⌝ }
+{
+    let offset = std::num::wrapping_sub_u32(id, l.inside);
+    if offset < l.count {
+        std::num::wrapping_add_u32(l.parent, offset)
+    } else {
+        other
+    }
+}
+
+// What the lines from `l` on make of each ID, given what those after it do.
+fn through(l: Line, ids: Batch, found: Batch) -> Batch
+    ensures { λ r. ⌜ r ≡ zipWith (movedOr l) ids found ⌝ }
+{
+    let mut r = found;
+    let mut i: usize = 0;
+    while i < 16 {
+        r[i] = moved_or(l, ids[i], found[i]);
+        i += 1;
+    }
+    r
+}
+
+// What the first line that holds it makes of each ID, read out of the namespace or back into it; `other` where no line does. It goes from the last line to
+// the first, so that the first has the last word.
+fn first_each(words: &[u64], ids: Batch, backward: bool, other: u32) -> Batch
+    ensures { λ r. ⌜ r ≡ outEach other (map (facingOf backward) (linesIn (now (words .entry)))) ids ⌝ }
+{
+    let mut found: Batch = [other; 16];
+    let mut i = words.len() / 3;
+    while 0 < i {
+        i -= 1;
+        let l = facing(line_at(words, i * 3), backward);
+        let next = through(l, ids, found);
+        found = next;
+    }
+    found
+}
+
+// The parent's ID for each ID inside; `other` where there is none.
+pub fn lookup_out_each(words: &[u64], ids: Batch, other: u32) -> Batch
+    ensures { λ r. ⌜ r ≡ outEach other (linesIn (now (words .entry))) ids ⌝ }
+{
+    first_each(words, ids, false, other)
+}
+
+// The ID inside for each ID of the parent; `other` where there is none.
+pub fn lookup_back_each(words: &[u64], ids: Batch, other: u32) -> Batch
+    ensures { λ r. ⌜ r ≡ backEach other (linesIn (now (words .entry))) ids ⌝ }
+{
+    first_each(words, ids, true, other)
+}
+
+// `id`, or 0 at a place that is not below `count`.
+fn kept(id: u32, place: usize, count: usize) -> u32
+    ensures { λ r. ⌜ r ≡ keptAt count place id ⌝ }
+{
+    if place < count { id } else { 0 }
+}
+
+// The first `count` of the IDs, and 0 in the other places.
+pub fn first_of(ids: Batch, count: usize) -> Batch
+    ensures { λ r. ⌜ r ≡ firstOf count ids ⌝ }
+{
+    let mut r = ids;
+    let mut i: usize = 0;
+    while i < 16 {
+        r[i] = kept(ids[i], i, count);
+        i += 1;
+    }
+    r
+}
+
+// Whether none of them is 'no ID'.
+pub fn all_ids(ids: Batch) -> bool
+    ensures { λ r. ⌜ r ≡ allIds ids ⌝ }
+{
+    let mut i: usize = 0;
+    while i < 16 {
+        if ids[i] == 4294967295 {
+            return false;
+        }
+        i += 1;
+    }
+    true
+}
