@@ -4,19 +4,18 @@ use mathlib.Core.Path.{_≡_, refl, sym, ap, _∙_}
 use mathlib.Core.Bool.{Bool, true, false, true≢false}
 use mathlib.Core.List.{List, [], _∷_, _++_, map, map-append}
 use mathlib.Core.Option.{Option, none, some}
-use native.Mathlib.Numerals.{add-one}
 use native.Mathlib.Omega.{arith}
 use lib.Dec.{eqb}
-use lib.ListN.{length, take, drop, getD, set, replicate, length-map}
-use lib.Seq.{take-all, take-at, take-suc, take-suc-set}
+use lib.ListN.{length, take, getD, set, replicate, length-map}
+use lib.Seq.{take-at, take-length}
 use borrow.Author.Needs.{needs}
 use borrow.Author.Tests.{lt-ltb, le-ltb}
 use Rattle.prelude.proofs.Tests.{by-test}
-use Rattle.prelude.proofs.Lists.{made-so-far, rest-empty}
 use Rattle.idmap.specs.Good.{noId}
 use Rattle.idmap.specs.Lookup.{idOr}
 use Rattle.idmap.specs.Text.{consOf, allOf}
 use Rattle.idmap.specs.Batch.{firstOf, allIds}
+use Rattle.idmap.proofs.Batches.{PlacedTo, placed-starts, placed-step, placed-ends}
 use Rattle.records.specs.declared.Kind.the-variants.{Group}
 use Rattle.records.specs.declared.GroupList.{GroupList}
 use Rattle.records.specs.declared.Process.{Process}
@@ -37,29 +36,17 @@ use Rattle.credentials.specs.declared.groups.Listed.{Listed}
 use Rattle.credentials.specs.Calls.{toOption, groupList, withList, thenList, kernelGroups, listedOf, setGroupsOf}
 
 -- ---- group_list: the first i of the groups are in place, and the others are 0
-pub ListedTo : List ℕ → List ℕ → ℕ → Type 0
-ListedTo list ids i = (take i ids ≡ take i list) × (drop i ids ≡ replicate (16 - i) 0)
+module _ (list ids : List ℕ) (i : ℕ) (inv : PlacedTo list ids i) (long : length ids ≡ 16) (few : length list ≤ 16) where
+  pub listed-step : i < length list → PlacedTo list (set ids i (getD list i 0)) (i + 1)
+  listed-step h = placed-step list ids i inv long 0 (getD list i 0) (omega arith) h refl
 
-module _ (list : List ℕ) where
-  pub listed-starts : ListedTo list (replicate 16 0) 0
-  unfolding ListedTo
-  listed-starts = (refl, refl)
-
-  module _ (ids : List ℕ) (i : ℕ) (inv : ListedTo list ids i) (long : length ids ≡ 16) (few : length list ≤ 16) where
-    pub listed-step : i < length list → ListedTo list (set ids i (getD list i 0)) (i + 1)
-    unfolding ListedTo
-    listed-step h = (
-      rw (add-one, take-suc-set ids i (getD list i 0) (omega arith), take-suc list i 0 h, inv .0),
-      rest-empty ids i 16 0 (inv .1) (getD list i 0) (omega arith),
-    )
-
-    pub listed-ends : length list ≤ i → i ≤ length list → _≡_ {A = GroupList} (record { count = i; ids = ids }) (groupList list)
-    unfolding ListedTo groupList
-    listed-ends h k =
-        let e : i ≡ length list = omega arith in
-        let so-far : take i ids ++ replicate (16 - i) 0 ≡ ids = made-so-far ids i 16 0 (inv .1) long (omega arith) .1 in
-        let whole : take i ids ≡ list = inv .0 ∙ take-all i list h in
-        rw (← so-far, whole, e)
+  pub listed-ends : length list ≤ i → i ≤ length list → _≡_ {A = GroupList} (record { count = i; ids = ids }) (groupList list)
+  unfolding groupList firstOf
+  listed-ends h k =
+      let e : i ≡ length list = omega arith in
+      let whole : take (length list) list ≡ list = take-length list in
+      let all : ids ≡ list ++ replicate (16 - length list) 0 = rw whole at (placed-ends list ids i inv long (length list) (omega arith) e) in
+      rw (e, all)
 
 -- ---- kernel_groups
 module _ (s : State) (n : ℕ) where
@@ -186,7 +173,7 @@ module _ (l : List ℕ) (c : ℕ) (list : List ℕ) (r : Found) (named : r ≡ p
                 (rw (put, made) (after-some (tablesOf l) i p listed (kernelGroups (tablesOf l) (p .namespace) list) got t ∙ sym groups-listed))
 
 pub ruleset grouping = (
-  listed-starts,
+  placed-starts,
   listed-step,
   listed-ends,
   kernel-listed,

@@ -1,15 +1,12 @@
 -- A process's own IDs, in the words of the code: each law's premises are what a place knows. Assumes nothing.
-use Prim.Native.Nat.{ℕ, _≤_, _<_, min}
+use Prim.Native.Nat.{ℕ, min}
 use mathlib.Core.Path.{_≡_, refl, sym, ap, _∙_}
 use mathlib.Core.List.{List, map}
 use native.Mathlib.Omega.{arith}
-use lib.Dec.{leb}
 use lib.ListN.{length, take, replicate, length-map}
-use lib.Seq.{length-take-le, take-all}
+use lib.Seq.{length-take-le}
 use borrow.Author.Needs.{needs}
-use borrow.Author.Tests.{leb-true, leb-false}
-use Rattle.prelude.proofs.Tests.{by-test}
-use Rattle.prelude.proofs.Lists.{take-map}
+use Rattle.prelude.proofs.Lists.{take-map, take-min}
 use Rattle.idmap.specs.declared.Line.{Line}
 use Rattle.idmap.specs.declared.Translated.{Translated}
 use Rattle.idmap.specs.Batch.{firstOf}
@@ -46,10 +43,8 @@ pub seen-groups-are : (s : State) (n : ℕ) (g : GroupList) (count : ℕ) (ids :
     → ids ≡ fromKernelEach s Group n 65534 count (g .ids) → record { count = count; ids = ids } ≡ seenGroups s n g
 unfolding seenGroups groupList eachBy firstOf
 seen-groups-are s n g count ids long few e =
-    let front : take (g .count) (g .ids) ≡ take count (g .ids) =
-        by-test (leb (g .count) 16)
-        (λ t. let h : g .count ≤ 16 = leb-true (g .count) 16 t in let q : g .count ≡ count = omega arith in ap (λ (k : ℕ). take k (g .ids)) q)
-        (λ t. let h : 16 < g .count = leb-false (g .count) 16 t in take-all (g .count) (g .ids) (omega arith) ∙ sym (take-all count (g .ids) (omega arith))) in
+    let m : min (g .count) (length (g .ids)) ≡ count = omega arith in
+    let front : take (g .count) (g .ids) ≡ take count (g .ids) = take-min (g .count) (g .ids) ∙ ap (λ (k : ℕ). take k (g .ids)) m in
     let many : length (map (seen s Group n) (take count (g .ids))) ≡ count = length-map (take count (g .ids)) (seen s Group n) ∙ length-take-le count (g .ids) (omega arith) in
     rw (front, many, e, take-map (seen s Group n) count (g .ids))
 

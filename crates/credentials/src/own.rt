@@ -1,12 +1,12 @@
 // A process's own IDs, as seen in its namespace.
 ghost use mathlib.Core.Path.{_≡_};
-ghost use Prim.Native.Nat.{min};
 ghost use Rattle.idmap.specs.Line.{linesIn};
 ghost use Rattle.tables.specs.Tables.{tablesOf};
 ghost use Rattle.hierarchy.specs.Walks.{fromKernelBy};
 ghost use Rattle.credentials.specs.Calls.{shownAs, seenIds, seenGroups, ownIdsOf};
 use hierarchy::batch::from_kernel_each;
 use hierarchy::translate::from_kernel_by;
+use idmap::batch::places;
 use idmap::lookup::id_or;
 use records::GroupList;
 use records::Ids;
@@ -50,19 +50,12 @@ fn seen_ids(t: &Tables, kind: Kind, namespace: u64, ids: Ids) -> Ids
     }
 }
 
-// As many groups as are listed, 16 at most.
-fn listed(count: u64) -> usize
-    ensures { λ r. ⌜ r ≡ min count 16 ⌝ }
-{
-    if count < 16 { count as usize } else { 16 }
-}
-
 // The supplementary groups in order.
 fn seen_groups(t: &Tables, namespace: u64, groups: GroupList) -> GroupList
     ensures { λ r. ⌜ r ≡ seenGroups (tablesOf (now (t .entry))) «namespace» groups ⌝ }
 {
     let kernel = groups.ids;
-    let count = listed(groups.count);
+    let count = places(groups.count as usize);
     let seen = from_kernel_each(t, Kind::Group, namespace, kernel, count, 65534);
     GroupList {
         count: count as u64,

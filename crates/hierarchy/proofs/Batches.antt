@@ -1,22 +1,22 @@
 -- Translation of sixteen IDs at once, in the words of the code: each law's premises are what a place knows. Assumes nothing.
-use Prim.Native.Nat.{ℕ, zero, suc, _+_, _-_, _≤_, _<_}
+use Prim.Native.Nat.{ℕ, zero, suc, _+_, _≤_, _<_, min}
 use mathlib.Core.Path.{_≡_, refl, sym, ap, _∙_}
 use mathlib.Core.Bool.{Bool, true, false, cond}
-use mathlib.Core.List.{List, [], _∷_, _++_, map, map-id, zipWith}
+use mathlib.Core.List.{List, map, map-id, zipWith}
 use native.Mathlib.Omega.{arith}
 use lib.Dec.{eqb}
-use lib.ListN.{length, take, drop, getD, set, replicate, length-map, List·getD-map}
-use lib.Seq.{take-all}
+use lib.ListN.{length, take, getD, set, replicate, length-map, List·getD-map}
 use borrow.Author.Needs.{needs}
 use borrow.Author.Tests.{eq-eqb, ne-eqb, eqb-true, eqb-false}
 use Rattle.prelude.proofs.Tests.{by-test}
-use Rattle.prelude.proofs.Lists.{copy-step, zip-map, zip-step, zip-all, made-so-far, rest-empty}
+use Rattle.prelude.proofs.Lists.{zip-map, zip-step, zip-all}
 use Rattle.idmap.specs.declared.Line.{Line}
 use Rattle.idmap.specs.declared.Translated.{Translated}
 use Rattle.idmap.specs.declared.Translated.the-variants.{Id, Unmapped}
 use Rattle.idmap.specs.Good.{noId}
 use Rattle.idmap.specs.Lookup.{out, thenId, flip, back, idOr}
 use Rattle.idmap.specs.Batch.{outEach, backEach, firstOf}
+use Rattle.idmap.proofs.Batches.{PlacedTo, placed-starts, placed-step, placed-all}
 use Rattle.records.specs.declared.Kind.{Kind}
 use Rattle.lifted_map.specs.Lift.{Lifted}
 use Rattle.tables.specs.Tables.{State, liftedAt}
@@ -33,40 +33,29 @@ turned-out b s kind m n x r t e = rw t e
 
 -- ---- singly: the first i of sixteen are in place, and the others are 0
 pub SinglyTo : (ℕ → Translated) → ℕ → List ℕ → List ℕ → ℕ → Type 0
-SinglyTo f other ids r i = (take i r ≡ take i (map (λ (x : ℕ). idOr other (f x)) ids)) × (drop i r ≡ replicate (16 - i) 0)
+SinglyTo f other ids r i = PlacedTo (map (λ (x : ℕ). idOr other (f x)) ids) r i
 
 module _ (f : ℕ → Translated) (other : ℕ) (ids : List ℕ) where
   pub singly-starts : SinglyTo f other ids (replicate 16 0) 0
   unfolding SinglyTo
-  singly-starts = (refl, refl)
+  singly-starts = placed-starts (map (λ (x : ℕ). idOr other (f x)) ids)
 
-  module _ (r : List ℕ) (i : ℕ) (inv : SinglyTo f other ids r i) (long : length r ≡ 16) (same : length ids ≡ 16) where
-    pub singly-step : (g : Translated) (v : ℕ) → i < 16 → g ≡ f (getD ids i 0) → v ≡ idOr other g → SinglyTo f other ids (set r i v) (i + 1)
-    unfolding SinglyTo
+  one : ℕ → ℕ
+  one x = idOr other (f x)
+
+  module _ (r : List ℕ) (i : ℕ) (inv : SinglyTo f other ids r i) (long : length r ≡ 16) (same : length ids ≡ 16) (n end : ℕ) (few : end ≡ min n 16) where
+    full : length (map one ids) ≡ 16
+    full = length-map ids one ∙ same
+
+    pub singly-step : (g : Translated) (v : ℕ) → i < end → g ≡ f (getD ids i 0) → v ≡ idOr other g → SinglyTo f other ids (set r i v) (i + 1)
+    unfolding SinglyTo one
     singly-step g v h found e =
-        let one : ℕ → ℕ = λ x. idOr other (f x) in
-        let at : v ≡ getD (map one ids) i (one 0) = e ∙ ap (idOr other) found ∙ sym (List·getD-map one ids i 0) in (
-          ap (λ (w : ℕ). take (i + 1) (set r i w)) at ∙ copy-step (map one ids) r i 16 (inv .0) long (length-map ids one ∙ same) (one 0) h,
-          rest-empty r i 16 0 (inv .1) v h,
-        )
+        let at : v ≡ getD (map one ids) i (one 0) = e ∙ ap (idOr other) found ∙ sym (List·getD-map one ids i 0) in
+        placed-step (map one ids) r i inv long (one 0) v (omega arith) (omega (arith, full)) at
 
-    -- what is in place is the first i, with 0 in the other places
-    singly-so-far : i ≤ 16 → r ≡ firstOf i (map (λ (x : ℕ). idOr other (f x)) ids)
-    unfolding SinglyTo firstOf
-    singly-so-far room = rw (← inv .0) (sym (made-so-far r i 16 0 (inv .1) long room .1))
-
-    pub singly-ends : (n : ℕ) → n ≤ i → i ≤ n → i ≤ 16 → r ≡ eachBy f other n ids
-    unfolding eachBy
-    singly-ends n h k room = let e : n ≡ i = omega arith in rw e (singly-so-far room)
-
-    pub singly-all : (n : ℕ) → 16 ≤ i → i ≤ n → i ≤ 16 → r ≡ eachBy f other n ids
-    unfolding eachBy firstOf
-    singly-all n h k room =
-        let l = map (λ (x : ℕ). idOr other (f x)) ids in
-        let all : length l ≡ 16 = length-map ids (λ (x : ℕ). idOr other (f x)) ∙ same in
-        let front : take n l ≡ take i l = take-all n l (omega arith) ∙ sym (take-all i l (omega arith)) in
-        let rest : 16 - n ≡ 16 - i = omega arith in
-        rw (front, rest) (singly-so-far room)
+    pub singly-all : i ≤ end → end ≤ i → r ≡ eachBy f other n ids
+    unfolding SinglyTo eachBy one
+    singly-all h k = placed-all (map one ids) r i inv long n end few full h k
 
 -- ---- or_else, without_no_id
 pub or-other : (other id found : ℕ) → id ≡ 4294967295 → other ≡ orElse other id found
@@ -187,7 +176,6 @@ pub ruleset translating = (
   turned-out,
   singly-starts,
   singly-step,
-  singly-ends,
   singly-all,
   or-other,
   or-found,

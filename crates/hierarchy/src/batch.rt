@@ -11,6 +11,7 @@ use idmap::batch::Batch;
 use idmap::batch::first_of;
 use idmap::batch::lookup_back_each;
 use idmap::batch::lookup_out_each;
+use idmap::batch::places;
 use idmap::lookup::id_or;
 use records::Kind;
 use tables::Tables;
@@ -50,12 +51,10 @@ fn singly(
 ) -> Batch
     ensures { λ r. ⌜ r ≡ eachBy (turnedBy backward (tablesOf (now (t .entry))) kind (record { base = base; lines = linesIn (now (lines .entry)) }) place) other count ids ⌝ }
 {
+    let end = places(count);
     let mut r: Batch = [0; 16];
     let mut i: usize = 0;
-    while i < 16 {
-        if count <= i {
-            return r;
-        }
+    while i < end {
         r[i] = id_or(turn(t, kind, backward, lines, base, place, ids[i]), other);
         i += 1;
     }

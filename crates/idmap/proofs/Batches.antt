@@ -5,35 +5,27 @@ use mathlib.Core.Bool.{Bool, true, false, cond}
 use mathlib.Core.List.{List, [], _∷_, _++_, map, map-id, zipWith}
 use native.Mathlib.Numerals.{add-one}
 use native.Mathlib.Omega.{arith}
-use lib.Dec.{ltb}
-use lib.ListN.{length, take, drop, getD, set, replicate, length-append, length-take, length-replicate, getD-replicate, drop-of-length-le, List·getD-append}
-use lib.Seq.{drop-cons, getD-take, getD-append-add}
+use lib.ListN.{length, take, drop, getD, set, replicate, drop-of-length-le}
+use lib.Seq.{drop-cons, take-suc, take-suc-set}
 use borrow.Author.Needs.{needs}
-use borrow.Author.Tests.{lt-ltb, le-ltb, ltb-true, ltb-false, eq-eqb, ne-eqb}
-use Rattle.prelude.proofs.Tests.{by-test}
-use Rattle.prelude.proofs.Lists.{copy-step, copy-all, zip-step, zip-all, zip-map}
+use borrow.Author.Tests.{lt-ltb, le-ltb, eq-eqb, ne-eqb}
+use Rattle.prelude.proofs.Lists.{take-min, zip-step, zip-all, zip-map, made-so-far, rest-empty}
 use Rattle.idmap.specs.declared.Line.{Line}
 use Rattle.idmap.specs.declared.Translated.{Translated}
 use Rattle.idmap.specs.declared.Translated.the-variants.{Id, Unmapped}
-use Rattle.idmap.specs.Line.{less, inRange, lineAt, linesIn}
-use Rattle.idmap.specs.Lookup.{movedBy, out, idOr, facingOf}
-use Rattle.idmap.specs.Batch.{movedOr, outEach, keptAt, firstOf, allIds}
+use Rattle.idmap.specs.Line.{lineAt, linesIn}
+use Rattle.idmap.specs.Lookup.{out, idOr, facingOf}
+use Rattle.idmap.specs.Batch.{movedOr, outEach, firstOf, allIds}
 use Rattle.idmap.proofs.Words.{lines-step, lines-end}
 use Rattle.idmap.proofs.Lookups.{less-is}
 
--- ---- moved_or, kept
+-- ---- moved_or
 module _ (l : Line) (id other d : ℕ) (e : (d + l .inside) % 2 ^ 32 ≡ id) (h : d < 2 ^ 32) (k : l .inside < 2 ^ 32) where
   pub moved-hit : (r : ℕ) → d < l .count → r ≡ (l .parent + d) % 2 ^ 32 → r ≡ movedOr l id other
   moved-hit r y m = m ∙ rw (← less-is id (l .inside) d e h k, lt-ltb d (l .count) y)
 
   pub moved-miss : l .count ≤ d → other ≡ movedOr l id other
   moved-miss n = rw (← less-is id (l .inside) d e h k, le-ltb d (l .count) n)
-
-pub kept-below : (n i id : ℕ) → i < n → id ≡ keptAt n i id
-kept-below n i id h = rw (lt-ltb i n h)
-
-pub kept-past : (n i id : ℕ) → n ≤ i → 0 ≡ keptAt n i id
-kept-past n i id h = rw (le-ltb i n h)
 
 -- ---- through: the first i of sixteen are in place
 pub Through : Line → List ℕ → List ℕ → List ℕ → ℕ → Type 0
@@ -95,45 +87,38 @@ module _ (b : Bool) (other : ℕ) (ws ids : List ℕ) where
 pub each-forth : (other : ℕ) (ls : List Line) (ids r : List ℕ) → r ≡ outEach other (map (facingOf false) ls) ids → r ≡ outEach other ls ids
 each-forth other ls ids r e = rw map-id at e
 
--- ---- first_of
-length-first : (n : ℕ) (ids : List ℕ) → length ids ≡ 16 → length (firstOf n ids) ≡ 16
-unfolding firstOf
-length-first n ids long = simp (length-append, length-take, length-replicate) (omega arith)
+-- ---- a batch of which the first i are in place and the others are 0
+pub PlacedTo : List ℕ → List ℕ → ℕ → Type 0
+PlacedTo made r i = (take i r ≡ take i made) × (drop i r ≡ replicate (16 - i) 0)
 
-first-at : (n : ℕ) (ids : List ℕ) (i : ℕ) → length ids ≡ 16 → i < 16 → getD (firstOf n ids) i 0 ≡ keptAt n i (getD ids i 0)
-unfolding firstOf
-first-at n ids i long h =
-    by-test (ltb i n)
-    (λ t.
-    let b : i < n = ltb-true i n t in
-    rw t (List·getD-append (take n ids) (replicate (16 - n) 0) 0 i (simp length-take (omega arith)) ∙ getD-take n ids i 0 b))
-    (λ t.
-    let b : n ≤ i = ltb-false i n t in
-    let front : length (take n ids) ≡ n = simp length-take (omega arith) in
-    let q : i ≡ length (take n ids) + (i - n) = omega arith in
-    rw t
-    (ap (λ (j : ℕ). getD (take n ids ++ replicate (16 - n) 0) j 0) q
-    ∙ getD-append-add (take n ids) (replicate (16 - n) 0) (i - n) 0
-    ∙ getD-replicate (16 - n) (i - n) 0 0 (omega arith)))
+pub placed-starts : (made : List ℕ) → PlacedTo made (replicate 16 0) 0
+unfolding PlacedTo
+placed-starts made = (refl, refl)
 
-pub FirstTo : ℕ → List ℕ → List ℕ → ℕ → Type 0
-FirstTo n ids r i = take i r ≡ take i (firstOf n ids)
+module _ (made r : List ℕ) (i : ℕ) (inv : PlacedTo made r i) (long : length r ≡ 16) where
+  pub placed-step : (d v : ℕ) → i < 16 → i < length made → v ≡ getD made i d → PlacedTo made (set r i v) (i + 1)
+  unfolding PlacedTo
+  placed-step d v h k e = (
+    rw (add-one, take-suc-set r i v (omega arith), take-suc made i d k, inv .0, e),
+    rest-empty r i 16 0 (inv .1) v h,
+  )
 
-module _ (n : ℕ) (ids r : List ℕ) where
-  pub first-starts : FirstTo n ids r 0
-  unfolding FirstTo
-  first-starts = refl
+  pub placed-ends : (n : ℕ) → i ≤ 16 → i ≡ n → r ≡ firstOf n made
+  unfolding PlacedTo firstOf
+  placed-ends n room e = rw (← e, ← inv .0) (sym (made-so-far r i 16 0 (inv .1) long room .1))
 
-  module _ (i : ℕ) (inv : FirstTo n ids r i) (long : length r ≡ 16) (same : length ids ≡ 16) where
-    pub first-step : (v : ℕ) → i < 16 → v ≡ keptAt n i (getD ids i 0) → FirstTo n ids (set r i v) (i + 1)
-    unfolding FirstTo
-    first-step v h e =
-        ap (λ (w : ℕ). take (i + 1) (set r i w)) (e ∙ sym (first-at n ids i same h))
-        ∙ copy-step (firstOf n ids) r i 16 inv long (length-first n ids same) 0 h
+  -- a batch is copied, up to the end of the first n
+  module _ (n end : ℕ) (few : end ≡ min n 16) (full : length made ≡ 16) where
+    pub placed-copy : i < end → PlacedTo made (set r i (getD made i 0)) (i + 1)
+    placed-copy h = placed-step 0 (getD made i 0) (omega arith) (omega arith) refl
 
-    pub first-all : 16 ≤ i → r ≡ firstOf n ids
-    unfolding FirstTo
-    first-all h = copy-all (firstOf n ids) r i 16 inv long (length-first n ids same) h
+    pub placed-all : i ≤ end → end ≤ i → r ≡ firstOf n made
+    unfolding firstOf
+    placed-all h k =
+        let rest : 16 - n ≡ 16 - i = omega arith in
+        let m : min n (length made) ≡ i = omega arith in
+        let front : take n made ≡ take i made = take-min n made ∙ ap (λ (j : ℕ). take j made) m in
+        placed-ends i (omega arith) refl ∙ sym (rw (front, rest))
 
 -- ---- all_ids: what the rest from place i on says
 pub AllFrom : List ℕ → ℕ → Type 0
@@ -161,8 +146,6 @@ module _ (ids : List ℕ) where
 pub ruleset batches = (
   moved-hit,
   moved-miss,
-  kept-below,
-  kept-past,
   through-starts,
   through-step,
   through-all,
@@ -170,9 +153,9 @@ pub ruleset batches = (
   each-step,
   each-ends,
   each-forth,
-  first-starts,
-  first-step,
-  first-all,
+  placed-starts,
+  placed-copy,
+  placed-all,
   all-starts,
   all-ends,
   all-missing,

@@ -2,7 +2,7 @@
 use Prim.Native.Nat.{ℕ, _-_}
 use mathlib.Core.Bool.{Bool, true, false, cond}
 use mathlib.Core.List.{List, [], _∷_, _++_, map}
-use lib.Dec.{ltb, eqb}
+use lib.Dec.{eqb}
 use lib.ListN.{take, replicate}
 use Rattle.idmap.specs.declared.Line.{Line}
 use Rattle.idmap.specs.Line.{inRange}
@@ -19,10 +19,6 @@ outEach other ls ids = map (λ (x : ℕ). idOr other (out ls x)) ids
 
 abbrev pub backEach : ℕ → List Line → List ℕ → List ℕ
 backEach other ls ids = outEach other (map flip ls) ids
-
--- an ID, or 0 at a place past the first n
-abbrev pub keptAt : ℕ → ℕ → ℕ → ℕ
-keptAt n place id = cond (ltb place n) id 0
 
 -- the first n of sixteen, and 0 in the other places
 unfoldable pub firstOf : ℕ → List ℕ → List ℕ

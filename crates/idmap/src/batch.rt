@@ -2,9 +2,10 @@
 // step and without a branch, so that the time depends on the number of lines alone.
 ghost use mathlib.Core.Path.{_≡_};
 ghost use mathlib.Core.List.{map, zipWith};
+ghost use Prim.Native.Nat.{min};
 ghost use Rattle.idmap.specs.Line.{linesIn};
 ghost use Rattle.idmap.specs.Lookup.{facingOf};
-ghost use Rattle.idmap.specs.Batch.{movedOr, outEach, backEach, keptAt, firstOf, allIds};
+ghost use Rattle.idmap.specs.Batch.{movedOr, outEach, backEach, firstOf, allIds};
 use crate::Line;
 use crate::lookup::facing;
 use crate::lookup::line_at;
@@ -67,21 +68,22 @@ pub fn lookup_back_each(words: &[u64], ids: Batch, other: u32) -> Batch
     first_each(words, ids, true, other)
 }
 
-// `id`, or 0 at a place that is not below `count`.
-fn kept(id: u32, place: usize, count: usize) -> u32
-    ensures { λ r. ⌜ r ≡ keptAt count place id ⌝ }
+// As many of `count` as a batch has places for.
+pub fn places(count: usize) -> usize
+    ensures { λ r. ⌜ r ≡ min count 16 ⌝ }
 {
-    if place < count { id } else { 0 }
+    if count < 16 { count } else { 16 }
 }
 
 // The first `count` of the IDs, and 0 in the other places.
 pub fn first_of(ids: Batch, count: usize) -> Batch
     ensures { λ r. ⌜ r ≡ firstOf count ids ⌝ }
 {
-    let mut r = ids;
+    let end = places(count);
+    let mut r: Batch = [0; 16];
     let mut i: usize = 0;
-    while i < 16 {
-        r[i] = kept(ids[i], i, count);
+    while i < end {
+        r[i] = ids[i];
         i += 1;
     }
     r

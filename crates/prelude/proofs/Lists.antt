@@ -4,8 +4,11 @@ use mathlib.Core.List.{List, [], _∷_, _++_, map, zipWith}
 use Prim.Native.Nat.{ℕ, zero, suc, _+_, _-_, _<_, _≤_, min}
 use native.Mathlib.Numerals.{add-one}
 use native.Mathlib.Omega.{arith}
+use lib.Dec.{leb}
 use lib.ListN.{length, take, drop, getD, set, replicate, length-take, take-append-drop, drop-of-length-le}
 use lib.Seq.{drop-cons, drop-drop, drop-set-lt, getD-take, length-take-le, take-all, take-suc, take-suc-set}
+use borrow.Author.Tests.{leb-true, leb-false}
+use Rattle.prelude.proofs.Tests.{by-test}
 
 -- the first n elements of a list, from index i on
 module _ {A : Type 0} (l : List A) (n i : ℕ) where
@@ -18,6 +21,13 @@ module _ {A : Type 0} (l : List A) (n i : ℕ) where
   -- nothing is left
   pub left-none : min n (length l) ≤ i → drop i (take n l) ≡ []
   left-none h = drop-of-length-le (take n l) {i = i} (simp length-take h)
+
+-- no more are taken than there are
+pub take-min : {A : Type 0} (n : ℕ) (l : List A) → take n l ≡ take (min n (length l)) l
+take-min n l =
+    by-test (leb n (length l))
+    (λ t. let h : n ≤ length l = leb-true n (length l) t in let q : min n (length l) ≡ n = omega arith in rw q)
+    (λ t. let h : length l < n = leb-false n (length l) t in take-all n l (omega arith) ∙ sym (take-all (min n (length l)) l (omega arith)))
 
 -- a list that is copied element by element: its first i elements are in place
 module _ {A : Type 0} (l t : List A) (i n : ℕ) (front : take i t ≡ take i l) (long : length t ≡ n) (same : length l ≡ n) where

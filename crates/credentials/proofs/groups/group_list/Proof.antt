@@ -2,12 +2,13 @@
 use mathlib.Core.Path.{_≡_}
 use Prim.Native.Nat.{_≤_, _-_}
 use lib.ListN.{length}
-use Rattle.credentials.proofs.GroupLists.{ListedTo, grouping}
+use Rattle.idmap.proofs.Batches.{PlacedTo}
+use Rattle.credentials.proofs.GroupLists.{grouping}
 use Rattle.credentials.proofs.groups.group_list.Statement.{statement}
 use Rattle.credentials.proofs.groups.group_list.Tie as tie
 
 abbrev Inv-loop : tie.InvT-loop
-Inv-loop list ids₀ i₀ ids i = (i ≤ length list) × (length ids ≡ 16) × ListedTo list ids i
+Inv-loop list ids₀ i₀ ids i = (i ≤ length list) × (length ids ≡ 16) × PlacedTo list ids i
 
 abbrev μ-loop : tie.MeasureT-loop
 μ-loop list ids₀ i₀ ids i = length list - i

@@ -6,6 +6,6 @@ use Rattle.credentials.proofs.own.seen_groups.Tie as tie
 pub seen-groups-spec : {M : Type 1} → statement M
 seen-groups-spec =
     tie.close (tie.spec
-    (λ c κs. search showing)  -- listed-requires
+    (λ c κs. search showing)  -- places-requires
     (λ c κs. search showing)  -- from-kernel-each-requires
     (λ c. search showing))  -- returns

@@ -1,6 +1,6 @@
 -- `hierarchy::batch::singly` meets its contract. Assumes nothing.
 use mathlib.Core.Path.{_≡_}
-use Prim.Native.Nat.{_≤_, _-_}
+use Prim.Native.Nat.{_≤_, _-_, min}
 use lib.ListN.{length}
 use Rattle.idmap.specs.Line.{linesIn}
 use Rattle.tables.specs.Tables.{tablesOf}
@@ -10,20 +10,20 @@ use Rattle.hierarchy.proofs.batch.singly.Statement.{statement}
 use Rattle.hierarchy.proofs.batch.singly.Tie as tie
 
 abbrev Inv-loop : tie.InvT-loop
-Inv-loop t kind backward lines base place count other ids r₀ i₀ r i =
-    (i ≤ 16)
-    × (i ≤ count)
+Inv-loop t kind backward lines base place count other ids end r₀ i₀ r i =
+    (i ≤ end)
+    × (end ≡ min count 16)
     × (length r ≡ 16)
     × SinglyTo (turnedBy backward (tablesOf t) kind (record { base = base; lines = linesIn lines }) place) other ids r i
 
 abbrev μ-loop : tie.MeasureT-loop
-μ-loop t kind backward lines base place count other ids r₀ i₀ r i = 16 - i
+μ-loop t kind backward lines base place count other ids end r₀ i₀ r i = end - i
 
 pub singly-spec : {M : Type 1} → statement M
 singly-spec =
     tie.close (tie.spec Inv-loop μ-loop
+    (λ c κs. search translating)  -- places-requires
     (λ c. search translating)  -- loop-holds
-    (λ c. search translating)  -- returns
     (λ c. search translating)  -- mul-turn
     (λ c. search translating)  -- array-read-turn
     (λ c κs. search translating)  -- turn-requires
@@ -33,4 +33,4 @@ singly-spec =
     (λ c. search translating)  -- add-i
     (λ c. search translating)  -- loop-less
     (λ c. search translating)  -- loop-again
-    (λ c. search translating))  -- returns-2
+    (λ c. search translating))  -- returns
