@@ -1,5 +1,5 @@
-//! Translation through 32 levels of random maps, against the reference program. The maps of a level cut the IDs into up to five
-//! pieces and put them into another order, so that their lines run across those above at random places.
+//! Translation of IDs and of lists through 32 levels of random maps, against the reference program. The maps of a level cut the
+//! IDs into up to five pieces and put them into another order, so that their lines run across those above at random places.
 
 use oarhatchet::Tables;
 use reference::random::Random;
@@ -44,10 +44,14 @@ struct Both {
 }
 
 impl Both {
-    fn make(&mut self, call: &Call) -> Answer {
+    fn come_to(&mut self, call: &Call) -> Outcome {
         let given = outcome(&mut self.tables, call);
         assert_eq!(given, outcome_on_reference(&mut self.reference, call), "{call:?}");
-        match given {
+        given
+    }
+
+    fn make(&mut self, call: &Call) -> Answer {
+        match self.come_to(call) {
             Outcome::Answer(answer) => answer,
             Outcome::Refused { number, .. } => panic!("{call:?} is refused with {number}"),
         }
@@ -58,12 +62,29 @@ impl Both {
         let (caller, process) = (level, level + 1);
         let made = Answer::ChildInNamespace { child: process, namespace: level };
         assert_eq!(self.make(&Call::Clone { caller }), made);
+        // No map is written yet, so that each of the groups that it has from its parent shows as unmapped.
+        self.make(&Call::GetIds { caller: process });
         for kind in KINDS {
             let text = map_text(random, level).into_bytes();
             self.make(&Call::WriteMap { kind, caller, process, text });
         }
         for kind in KINDS {
             self.make(&Call::SetIds { kind, caller: process, ids: [0; 3] });
+        }
+    }
+
+    /// Sets as many random groups and asks for them; then tries the same with one that is not mapped.
+    fn list(&mut self, random: &mut Random, caller: u64, count: u64) {
+        let mut groups: Vec<u32> = (0..count).map(|_| random.below(IDS) as u32).collect();
+        self.make(&Call::Setgroups { caller, groups: groups.clone() });
+        let Answer::OwnIds { groups: seen, .. } = self.make(&Call::GetIds { caller }) else {
+            panic!("no own IDs")
+        };
+        assert_eq!(seen, groups);
+        if let Some(place) = (count > 0).then(|| random.index(count as usize)) {
+            groups[place] = [IDS as u32, u32::MAX][random.index(2)];
+            let refused = self.come_to(&Call::Setgroups { caller, groups });
+            assert!(matches!(refused, Outcome::Refused { number: 22, .. }));
         }
     }
 
@@ -91,7 +112,8 @@ fn random_maps_translate_alike_at_every_level() {
                 }
                 both.translate(Direction::Out, kind, level, IDS);
             }
-            both.make(&Call::GetIds { caller: level + 1 });
+            let count = random.below(17);
+            both.list(&mut random, level + 1, count);
         }
     }
 }

@@ -10,12 +10,13 @@ use lib.Dec.{eqb}
 use borrow.Author.Tests.{eq-eqb, eqb-true, eqb-false}
 use Rattle.idmap.specs.declared.Translated.the-variants.{Id}
 use Rattle.idmap.specs.Good.{noId}
+use Rattle.idmap.specs.Lookup.{orNoId}
 use Rattle.records.specs.declared.Kind.{Kind}
 use Rattle.records.specs.declared.Kind.the-variants.{User, Group}
 use Rattle.records.specs.declared.Ids.{Ids}
 use Rattle.prelude.proofs.Tests.{by-test, and-left, and-right}
 use Rattle.claims.specs.Events.{Event, other, forked, cloned, unshared, joined, mapped, changed, grouped}
-use Rattle.claims.specs.Words.{isProcess, isNamespace, placeOf, parentOf, levelOf, mapOf, linesOf, standsFor, chosenOf, changedIds, held, heldOf, orNoId, sameKind}
+use Rattle.claims.specs.Words.{isProcess, isNamespace, placeOf, parentOf, levelOf, mapOf, linesOf, standsFor, chosenOf, changedIds, held, heldOf, sameKind}
 use Rattle.claims.specs.Translation.{Under, here, below}
 use Rattle.claims.specs.TopLevel.{TopLevel, IsUnder, Stands, Has, Descends, Entered}
 use Rattle.claims.proofs.Levels.{out-is, passes}

@@ -10,6 +10,7 @@ use lib.ListN.{length, take, replicate}
 use lib.Seq.{take-append-seam}
 use Rattle.idmap.specs.declared.Translated.{Translated}
 use Rattle.idmap.specs.declared.Translated.the-variants.{Id, Unmapped}
+use Rattle.idmap.specs.Lookup.{orNoId}
 use Rattle.idmap.specs.Text.{consOf, allOf}
 use Rattle.records.specs.declared.Kind.{Kind}
 use Rattle.records.specs.declared.Kind.the-variants.{User, Group}
@@ -22,7 +23,7 @@ use Rattle.tables.specs.Find.{processNamed}
 use Rattle.credentials.specs.Calls.{chosen, withUsers, withGroups, withIds, setIdsOf, toOption, groupList, withList, kernelGroups, setGroupsOf, withSets, dropOf}
 use Rattle.calls.specs.declared.Call.the-variants.{SetIds, SetGroups, Drop}
 use Rattle.claims.specs.Events.{Event, other, changed, grouped}
-use Rattle.claims.specs.Words.{Held, isProcess, isNamespace, placeOf, parentOf, levelOf, mapOf, liftOf, heldOf, standsFor, chosenOf, changedIds, orNoId, sameKind}
+use Rattle.claims.specs.Words.{Held, isProcess, isNamespace, placeOf, parentOf, levelOf, mapOf, liftOf, heldOf, standsFor, chosenOf, changedIds, sameKind}
 use Rattle.claims.specs.History.{AllSmall}
 use Rattle.claims.specs.Agreement.{moreIn, heldIn, Agreed}
 use Rattle.claims.proofs.Allowed.{SoundAt, AllStand}

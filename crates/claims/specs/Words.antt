@@ -7,8 +7,9 @@ use mathlib.Core.Option.{Option, none, some}
 use lib.Dec.{eqb}
 use Rattle.idmap.specs.declared.Line.{Line}
 use Rattle.idmap.specs.declared.Translated.{Translated}
-use Rattle.idmap.specs.declared.Translated.the-variants.{Id, Unmapped}
+use Rattle.idmap.specs.declared.Translated.the-variants.{Id}
 use Rattle.idmap.specs.Good.{noId}
+use Rattle.idmap.specs.Lookup.{orNoId}
 use Rattle.idmap.specs.Text.{mapLines}
 use Rattle.lifted_map.specs.Lift.{Lifted, liftedOf}
 use Rattle.records.specs.declared.Kind.{Kind}
@@ -136,10 +137,6 @@ pub record Held : Type 0 where
 
 abbrev pub held : Held → List ℕ
 held c = c .three .real ∷ c .three .effective ∷ c .three .saved ∷ c .more
-
-abbrev pub orNoId : Translated → ℕ
-orNoId (Id x) = x
-orNoId Unmapped = noId
 
 -- one of the three IDs of an ID change: 4294967295 leaves it as it is, another is what it stands for in the caller's namespace
 abbrev pub chosenOf : Kind → List Event → ℕ → ℕ → ℕ → Translated

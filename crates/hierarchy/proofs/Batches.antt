@@ -130,14 +130,14 @@ module _ (s : State) (kind : Kind) (n count : ℕ) (ids r : List ℕ) where
     unfolding eachBy outEach toKernel
     to-each-once found h m e =
         let one : (x : ℕ) → idOr noId (out ls x) ≡ idOr noId (toKernelBy s kind (liftedAt s kind n) n x) = λ x.
-            then-itself-or (out ls x) ∙ ap (idOr noId) (sym (to-first s kind ls b n x Unmapped below h)) ∙ ap (λ (l : Lifted). idOr noId (toKernelBy s kind l n x)) own-map in
+        then-itself-or (out ls x) ∙ ap (idOr noId) (sym (to-first s kind ls b n x Unmapped below h)) ∙ ap (λ (l : Lifted). idOr noId (toKernelBy s kind l n x)) own-map in
         e ∙ ap (firstOf count) (m ∙ each-same (λ x. idOr noId (out ls x)) (λ x. idOr noId (toKernelBy s kind (liftedAt s kind n) n x)) ids one)
 
     pub from-each-once : (other : ℕ) (found kept : List ℕ) → b ≤ 0 → found ≡ backEach other ls ids → kept ≡ zipWith (orElse other) ids found → r ≡ firstOf count kept → r ≡ fromKernelEach s kind n other count ids
     unfolding eachBy outEach fromKernel
     from-each-once other found kept h m k e =
         let one : (x : ℕ) → orElse other x (idOr other (back ls x)) ≡ idOr other (fromKernelBy s kind (liftedAt s kind n) n x) = λ x.
-            itself-then-else other x (back ls) ∙ ap (idOr other) (sym (from-first s kind ls b n x below h)) ∙ ap (λ (l : Lifted). idOr other (fromKernelBy s kind l n x)) own-map in
+        itself-then-else other x (back ls) ∙ ap (idOr other) (sym (from-first s kind ls b n x below h)) ∙ ap (λ (l : Lifted). idOr other (fromKernelBy s kind l n x)) own-map in
         e
         ∙ ap (firstOf count)
         (k

@@ -1,7 +1,6 @@
 -- Walks along the hierarchy of namespaces: document 01, 'Translation' and 'Who holds a capability'. Assumes nothing.
 use Prim.Native.Nat.{ℕ, zero, suc, min}
 use mathlib.Core.Bool.{Bool, true, false, cond, _&&_}
-use mathlib.Core.List.{List, [], _∷_}
 use lib.Dec.{eqb}
 use Rattle.capability.specs.Sets.{holds}
 use Rattle.idmap.specs.declared.Translated.{Translated}

@@ -115,5 +115,8 @@ pub fn from_kernel_each(
     if 0 < base {
         return singly(t, kind, true, lines, base, place, ids, count, other);
     }
-    first_of(without_no_id(ids, lookup_back_each(lines, ids, other), other), count)
+    first_of(
+        without_no_id(ids, lookup_back_each(lines, ids, other), other),
+        count,
+    )
 }

@@ -6,6 +6,7 @@ use Rattle.idmap.specs.declared.Line.{Line}
 use Rattle.idmap.specs.declared.Translated.{Translated}
 use Rattle.idmap.specs.declared.Translated.the-variants.{Id, Unmapped}
 use Rattle.idmap.specs.Line.{less, more, inRange}
+use Rattle.idmap.specs.Good.{noId}
 
 -- the ID that a line gives for an ID that it holds: the offset is added to the parent start
 abbrev pub movedBy : Line → ℕ → ℕ
@@ -25,6 +26,10 @@ thenId Unmapped next = Unmapped
 abbrev pub idOr : ℕ → Translated → ℕ
 idOr other (Id x) = x
 idOr other Unmapped = other
+
+-- an ID, or 'no ID' where there is none
+abbrev pub orNoId : Translated → ℕ
+orNoId r = idOr noId r
 
 -- a line with its two sides exchanged, and the same where a flag asks for it
 abbrev pub flip : Line → Line

@@ -19,6 +19,7 @@ use Rattle.prelude.proofs.Parts.{fits-inside, fits-outside, put-inside, put-out
 use Rattle.idmap.specs.declared.Line.{Line}
 use Rattle.idmap.specs.declared.Translated.{Translated}
 use Rattle.idmap.specs.declared.Translated.the-variants.{Id, Unmapped}
+use Rattle.idmap.specs.Lookup.{orNoId}
 use Rattle.idmap.specs.Show.{lineText, linesText}
 use Rattle.idmap.proofs.Shows.{length-line-text, length-lines-text}
 use Rattle.records.specs.declared.Kind.{Kind}
@@ -34,7 +35,7 @@ use Rattle.tables.specs.Tables.{State, processAt, namespaceAt}
 use Rattle.tables.specs.Find.{processNamed}
 use Rattle.tables.specs.Reply.{refused, bytes}
 use Rattle.hierarchy.specs.Walks.{toKernel, fromKernel}
-use Rattle.mapping.specs.Calls.{ReadOutcome, readText, viewOf, orNoId, shownLine, lineCount, mapTextOf, readMapOf}
+use Rattle.mapping.specs.Calls.{ReadOutcome, readText, viewOf, shownLine, lineCount, mapTextOf, readMapOf}
 use Rattle.mapping.specs.Calls.{denyText, allowText, settingText, readSetgroupsOf}
 
 -- ---- view

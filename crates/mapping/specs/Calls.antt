@@ -10,6 +10,7 @@ use Rattle.idmap.specs.declared.Line.{Line}
 use Rattle.idmap.specs.declared.Translated.{Translated}
 use Rattle.idmap.specs.declared.Translated.the-variants.{Id, Unmapped}
 use Rattle.idmap.specs.Good.{maxLines, noId}
+use Rattle.idmap.specs.Lookup.{orNoId}
 use Rattle.idmap.specs.Cover.{coveredOf}
 use Rattle.idmap.specs.Text.{mapLines, padded}
 use Rattle.idmap.specs.Show.{linesText}
@@ -161,10 +162,6 @@ readText text buffer = record { reply = cond (fitsAt buffer 0 text) (bytes (leng
 -- field two is shown in the reader's namespace, or in the parent if the reader is in the target
 unfoldable pub viewOf : State → Process → ℕ → ℕ
 viewOf s r n = cond (eqb (r .namespace) n) (namespaceAt s n .parent) (r .namespace)
-
-abbrev pub orNoId : Translated → ℕ
-orNoId (Id x) = x
-orNoId Unmapped = noId
 
 -- the start of a line's parent side, of a map of namespace n, as namespace v sees it; 4294967295 if it has none
 abbrev pub seenStart : State → Kind → ℕ → ℕ → Translated → ℕ

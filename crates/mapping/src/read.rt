@@ -8,12 +8,13 @@ ghost use Rattle.idmap.specs.Good.{maxLines};
 ghost use Rattle.idmap.specs.Show.{linesText};
 ghost use Rattle.tables.specs.Tables.{tablesOf};
 ghost use Rattle.tables.specs.Reply.{replyOf};
-ghost use Rattle.mapping.specs.Calls.{viewOf, orNoId, shownLine, ReadOutcome, readText, lineCount, readMapOf, readSetgroupsOf};
+ghost use Rattle.mapping.specs.Calls.{viewOf, shownLine, ReadOutcome, readText, lineCount, readMapOf, readSetgroupsOf};
 use hierarchy::translate::from_kernel;
 use hierarchy::translate::to_kernel;
 use idmap::Line;
 use idmap::MAX_LINES;
 use idmap::Translated;
+use idmap::lookup::id_or;
 use idmap::show::put_line;
 use idmap::show::put_text;
 use records::IdMap;
@@ -41,15 +42,6 @@ fn view(t: &Tables, reader: Process, n: u64) -> u64
     }
 }
 
-fn or_no_id(r: Translated) -> u32
-    ensures { λ x. ⌜ x ≡ orNoId r ⌝ }
-{
-    match r {
-        Translated::Id(x) => x,
-        Translated::Unmapped => 4294967295,
-    }
-}
-
 // A line of a map of namespace `n` as namespace `v` sees it.
 fn shown(t: &Tables, kind: Kind, n: u64, v: u64, l: Line) -> Line
     ensures { λ r. ⌜ r ≡ shownLine (tablesOf (now (t .entry))) kind n v l ⌝ }
@@ -59,7 +51,7 @@ fn shown(t: &Tables, kind: Kind, n: u64, v: u64, l: Line) -> Line
     match start {
         Translated::Id(x) => Line {
             inside: l.inside,
-            parent: or_no_id(from_kernel(t, kind, v, x)),
+            parent: id_or(from_kernel(t, kind, v, x), 4294967295),
             count: l.count,
         },
         Translated::Unmapped => Line {

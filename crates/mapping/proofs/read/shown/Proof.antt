@@ -10,7 +10,7 @@ shown-spec =
     (λ c κs. search reading)  -- to-kernel-requires
     (λ c. search reading)  -- enum-known-start
     (λ c κs. search reading)  -- from-kernel-requires
-    (λ c κs. search reading)  -- or-no-id-requires
+    (λ c κs. search reading)  -- id-or-requires
     (λ c. search reading)  -- enum-told
     (λ c. search reading)  -- returns
     (λ c. search reading))  -- returns-2
