@@ -1,21 +1,19 @@
 -- Setgroups, in the words of the code: each law's premises are what a place knows. Assumes nothing.
-use Prim.Native.Nat.{ℕ, zero, suc, _+_, _-_, _≤_, _<_}
+use Prim.Native.Nat.{ℕ, zero, suc, _-_, _≤_, _<_, min}
 use mathlib.Core.Path.{_≡_, refl, sym, ap, _∙_}
 use mathlib.Core.Bool.{Bool, true, false, true≢false}
 use mathlib.Core.List.{List, [], _∷_, _++_, map, map-append}
 use mathlib.Core.Option.{Option, none, some}
 use native.Mathlib.Omega.{arith}
 use lib.Dec.{eqb}
-use lib.ListN.{length, take, getD, set, replicate, length-map}
-use lib.Seq.{take-at, take-length}
+use lib.ListN.{length, take, replicate, length-map}
+use lib.Seq.{take-at}
 use borrow.Author.Needs.{needs}
 use borrow.Author.Tests.{lt-ltb, le-ltb}
 use Rattle.prelude.proofs.Tests.{by-test}
 use Rattle.idmap.specs.Good.{noId}
 use Rattle.idmap.specs.Lookup.{idOr}
 use Rattle.idmap.specs.Text.{consOf, allOf}
-use Rattle.idmap.specs.Batch.{firstOf, allIds}
-use Rattle.idmap.proofs.Batches.{PlacedTo, placed-starts, placed-step, placed-ends}
 use Rattle.records.specs.declared.Kind.the-variants.{Group}
 use Rattle.records.specs.declared.GroupList.{GroupList}
 use Rattle.records.specs.declared.Process.{Process}
@@ -33,20 +31,8 @@ use Rattle.hierarchy.specs.Walks.{itself, toKernel, capableIn}
 use Rattle.hierarchy.specs.Batch.{eachBy, toKernelEach}
 use Rattle.hierarchy.proofs.Batches.{known-kernel}
 use Rattle.credentials.specs.declared.groups.Listed.{Listed}
+use Rattle.credentials.specs.Batch.{batchOf, allIds}
 use Rattle.credentials.specs.Calls.{toOption, groupList, withList, thenList, kernelGroups, listedOf, setGroupsOf}
-
--- ---- group_list: the first i of the groups are in place, and the others are 0
-module _ (list ids : List ℕ) (i : ℕ) (inv : PlacedTo list ids i) (long : length ids ≡ 16) (few : length list ≤ 16) where
-  pub listed-step : i < length list → PlacedTo list (set ids i (getD list i 0)) (i + 1)
-  listed-step h = placed-step list ids i inv long 0 (getD list i 0) (omega arith) h refl
-
-  pub listed-ends : length list ≤ i → i ≤ length list → _≡_ {A = GroupList} (record { count = i; ids = ids }) (groupList list)
-  unfolding groupList firstOf
-  listed-ends h k =
-      let e : i ≡ length list = omega arith in
-      let whole : take (length list) list ≡ list = take-length list in
-      let all : ids ≡ list ++ replicate (16 - length list) 0 = rw whole at (placed-ends list ids i inv long (length list) (omega arith) e) in
-      rw (e, all)
 
 -- ---- kernel_groups
 module _ (s : State) (n : ℕ) where
@@ -82,23 +68,27 @@ module _ (s : State) (n : ℕ) where
         (λ t. rw (option-is x, t))
         (λ t. rw (option-is x, t, some-group list (rw t at e)))
 
-  module _ (list : List ℕ) (given : GroupList) (kernel : List ℕ) (t : Bool) (read : given ≡ groupList list)
-      (found : kernel ≡ toKernelEach s Group n (length list) (given .ids)) (tested : t ≡ allIds kernel) where
-    -- the kernel IDs of the list, and then zeros
-    kernel-is : kernel ≡ map kernelOr list ++ replicate (16 - length list) 0
-    unfolding eachBy firstOf groupList kernelOr
+  module _ (list : List ℕ) (few : length list ≤ 16) (given kernel : List ℕ) (groups : GroupList) (t : Bool) (read : given ≡ batchOf list)
+      (found : kernel ≡ toKernelEach s Group n given) (made : groups ≡ groupList (take (min (length list) 16) kernel)) (tested : t ≡ allIds (groups .ids)) where
+    -- the kernel IDs of the list
+    kernel-is : take (min (length list) 16) kernel ≡ map kernelOr list
+    unfolding eachBy batchOf kernelOr
     kernel-is =
-        found
-        ∙ rw (read, map-append kernelOr list (replicate (16 - length list) 0), take-at (map kernelOr list) (map kernelOr (replicate (16 - length list) 0)) (length list) (length-map list kernelOr))
+        let m : min (length list) 16 ≡ length list = omega arith in
+        rw (m, found, read, map-append kernelOr list (replicate (20 - length list) 0)) (take-at (map kernelOr list) (map kernelOr (replicate (20 - length list) 0)) (length list) (length-map list kernelOr))
 
-    pub kernel-listed : t ≡ true → _≡_ {A = Listed} (record { mapped = true; groups = record { count = given .count; ids = kernel } }) (listedOf (kernelGroups s n list))
+    groups-are : groups ≡ groupList (map kernelOr list)
+    groups-are = made ∙ ap groupList kernel-is
+
+    ids-are : allIds (map kernelOr list ++ replicate (16 - length (map kernelOr list)) 0) ≡ t
     unfolding groupList
-    kernel-listed e =
-        rw (every-group (16 - length list) list (ap allIds (sym kernel-is) ∙ sym tested ∙ e), read, kernel-is, length-map list kernelOr)
+    ids-are = sym (tested ∙ rw groups-are)
+
+    pub kernel-listed : t ≡ true → _≡_ {A = Listed} (record { mapped = true; groups = groups }) (listedOf (kernelGroups s n list))
+    kernel-listed e = rw (every-group (16 - length (map kernelOr list)) list (ids-are ∙ e), groups-are)
 
     pub kernel-unlisted : (a : Listed) → t ≡ false → a ≡ listedOf none → a ≡ listedOf (kernelGroups s n list)
-    kernel-unlisted a e q =
-        q ∙ sym (ap listedOf (some-group (16 - length list) list (ap allIds (sym kernel-is) ∙ sym tested ∙ e)))
+    kernel-unlisted a e q = q ∙ sym (ap listedOf (some-group (16 - length (map kernelOr list)) list (ids-are ∙ e)))
 
 -- ---- none_listed, with_list
 pub listed-none : _≡_ {A = Listed} (record { mapped = false; groups = record { count = 0; ids = replicate 16 0 } }) (listedOf none)
@@ -173,9 +163,6 @@ module _ (l : List ℕ) (c : ℕ) (list : List ℕ) (r : Found) (named : r ≡ p
                 (rw (put, made) (after-some (tablesOf l) i p listed (kernelGroups (tablesOf l) (p .namespace) list) got t ∙ sym groups-listed))
 
 pub ruleset grouping = (
-  placed-starts,
-  listed-step,
-  listed-ends,
   kernel-listed,
   kernel-unlisted,
   listed-none,

@@ -1,15 +1,16 @@
 -- A process's own IDs, in the words of the code: each law's premises are what a place knows. Assumes nothing.
-use Prim.Native.Nat.{ℕ, min}
+use Prim.Native.Nat.{ℕ, _+_, min}
 use mathlib.Core.Path.{_≡_, refl, sym, ap, _∙_}
-use mathlib.Core.List.{List, map}
+use mathlib.Core.Bool.{true}
+use mathlib.Core.List.{List, [], _∷_, _++_, map, map-append}
 use native.Mathlib.Omega.{arith}
-use lib.ListN.{length, take, replicate, length-map}
-use lib.Seq.{length-take-le}
+use lib.ListN.{length, take, getD, replicate, length-map}
+use lib.Seq.{take-append-le, getD-append-add}
 use borrow.Author.Needs.{needs}
 use Rattle.prelude.proofs.Lists.{take-map, take-min}
 use Rattle.idmap.specs.declared.Line.{Line}
 use Rattle.idmap.specs.declared.Translated.{Translated}
-use Rattle.idmap.specs.Batch.{firstOf}
+use Rattle.idmap.specs.Lookup.{idOr}
 use Rattle.records.specs.declared.Kind.{Kind}
 use Rattle.records.specs.declared.Kind.the-variants.{User, Group}
 use Rattle.records.specs.declared.Ids.{Ids}
@@ -22,31 +23,74 @@ use Rattle.tables.specs.declared.find.Found.the-variants.{At, Nothing}
 use Rattle.tables.specs.declared.answer.Errno.the-variants.{ESRCH}
 use Rattle.tables.specs.declared.answer.Answer.the-variants.{Refused, Own}
 use Rattle.hierarchy.specs.Walks.{fromKernelBy, fromKernel}
-use Rattle.hierarchy.specs.Batch.{eachBy, fromKernelEach}
+use Rattle.hierarchy.specs.declared.batch.Known.{Known}
+use Rattle.hierarchy.specs.Batch.{turnedBy, eachBy, fromKernelEach, knownBy}
+use Rattle.hierarchy.proofs.Batches.{Knows, found-at}
 use Rattle.hierarchy.proofs.Translations.{from-own}
 use Rattle.credentials.specs.declared.own.OwnIds.{OwnIds}
+use Rattle.credentials.specs.declared.own.Groups.{Groups}
+use Rattle.credentials.specs.Batch.{ownBatch}
 use Rattle.credentials.specs.Calls.{shownAs, seen, seenIds, noIds, groupList, seenGroups, ownIdsOf}
 
 -- ---- an ID, and three
 pub shown-by : (r f : Translated) (v : ℕ) → v ≡ shownAs r → r ≡ f → v ≡ shownAs f
 shown-by r f v e q = e ∙ ap shownAs q
 
-pub seen-is : (s : State) (kind : Kind) (ls : List Line) (b n x v : ℕ) → ls ≡ liftedAt s kind n .lines → b ≡ liftedAt s kind n .base → v ≡ shownAs (fromKernelBy s kind (record { base = b; lines = ls }) n x) → v ≡ seen s kind n x
-seen-is s kind ls b n x v lines base e = e ∙ ap shownAs (from-own s kind ls b n x _ lines base refl)
+-- by the lifted map that the tables have
+module _ (s : State) (kind : Kind) (ls : List Line) (b n : ℕ) (lines : ls ≡ liftedAt s kind n .lines) (base : b ≡ liftedAt s kind n .base) where
+  by-own : (x : ℕ) → idOr 65534 (fromKernelBy s kind (record { base = b; lines = ls }) n x) ≡ seen s kind n x
+  by-own x = ap shownAs (from-own s kind ls b n x _ lines base refl)
 
-pub seen-three : (s : State) (kind : Kind) (n : ℕ) (i : Ids) (a b d : ℕ) → a ≡ seen s kind n (i .real) → b ≡ seen s kind n (i .effective)
-    → d ≡ seen s kind n (i .saved) → record { real = a; effective = b; saved = d } ≡ seenIds s kind n i
-seen-three s kind n i a b d p q r = λ j. record { real = p j; effective = q j; saved = r j }
+  pub seen-first : (x v : ℕ) → v ≡ shownAs (fromKernelBy s kind (record { base = b; lines = ls }) n x) → v ≡ seen s kind n x
+  seen-first x v e = e ∙ by-own x
 
--- ---- the list
-pub seen-groups-are : (s : State) (n : ℕ) (g : GroupList) (count : ℕ) (ids : List ℕ) → length (g .ids) ≡ 16 → count ≡ min (g .count) 16
-    → ids ≡ fromKernelEach s Group n 65534 count (g .ids) → record { count = count; ids = ids } ≡ seenGroups s n g
-unfolding seenGroups groupList eachBy firstOf
-seen-groups-are s n g count ids long few e =
-    let m : min (g .count) (length (g .ids)) ≡ count = omega arith in
-    let front : take (g .count) (g .ids) ≡ take count (g .ids) = take-min (g .count) (g .ids) ∙ ap (λ (k : ℕ). take k (g .ids)) m in
-    let many : length (map (seen s Group n) (take count (g .ids))) ≡ count = length-map (take count (g .ids)) (seen s Group n) ∙ length-take-le count (g .ids) (omega arith) in
-    rw (front, many, e, take-map (seen s Group n) count (g .ids))
+  -- three IDs, each after the one before it
+  pub seen-three : (i : Ids) (v : ℕ) (e d : Known) → v ≡ shownAs (fromKernelBy s kind (record { base = b; lines = ls }) n (i .real))
+      → e ≡ knownBy (turnedBy true s kind (record { base = b; lines = ls }) n) 65534 (record { id = i .real; found = v }) (i .effective)
+      → d ≡ knownBy (turnedBy true s kind (record { base = b; lines = ls }) n) 65534 e (i .saved)
+      → record { real = v; effective = e .found; saved = d .found } ≡ seenIds s kind n i
+  unfolding Knows
+  seen-three i v e d p q r =
+      let f : ℕ → Translated = fromKernelBy s kind (record { base = b; lines = ls }) n in
+      let second = found-at f 65534 [] (record { id = i .real; found = v }) e (i .effective) p q in
+      let third = found-at f 65534 [] e d (i .saved) (second .1) r in
+      λ j. record { real = (p ∙ by-own (i .real)) j; effective = (second .0 ∙ by-own (i .effective)) j; saved = (third .0 ∙ by-own (i .saved)) j }
+
+-- ---- all group IDs at once
+module _ (s : State) (n : ℕ) (three : Ids) (g : GroupList) (given found : List ℕ) (seen-list : GroupList) (long : length (g .ids) ≡ 16) (read : given ≡ ownBatch (g .ids) three)
+    (seen-all : found ≡ fromKernelEach s Group n 65534 given) where
+  -- those of the list, and then the three
+  found-is : found ≡ map (seen s Group n) (g .ids) ++ (seen s Group n (three .real) ∷ seen s Group n (three .effective) ∷ seen s Group n (three .saved) ∷ seen s Group n 0 ∷ [])
+  unfolding eachBy ownBatch
+  found-is = seen-all ∙ rw (read, map-append (seen s Group n) (g .ids) (three .real ∷ three .effective ∷ three .saved ∷ 0 ∷ []))
+
+  many : length (map (seen s Group n) (g .ids)) ≡ 16
+  many = length-map (g .ids) (seen s Group n) ∙ long
+
+  -- the one at place 16 + k
+  own-at : (k : ℕ) → getD found (16 + k) 0 ≡ getD (seen s Group n (three .real) ∷ seen s Group n (three .effective) ∷ seen s Group n (three .saved) ∷ seen s Group n 0 ∷ []) k 0
+  own-at k =
+      let l = map (seen s Group n) (g .ids) in
+      let rest = seen s Group n (three .real) ∷ seen s Group n (three .effective) ∷ seen s Group n (three .saved) ∷ seen s Group n 0 ∷ [] in
+      ap (λ (xs : List ℕ). getD xs (16 + k) 0) found-is ∙ ap (λ (m : ℕ). getD (l ++ rest) (m + k) 0) (sym many) ∙ getD-append-add l rest k 0
+
+  list-is : take (min (g .count) 16) found ≡ map (seen s Group n) (take (g .count) (g .ids))
+  list-is =
+      let l = map (seen s Group n) (g .ids) in
+      let m : min (g .count) 16 ≡ min (g .count) (length (g .ids)) = ap (min (g .count)) (sym long) in
+      ap (take (min (g .count) 16)) found-is
+      ∙ take-append-le (min (g .count) 16) l _ (omega (arith, many))
+      ∙ take-map (seen s Group n) (min (g .count) 16) (g .ids)
+      ∙ ap (map (seen s Group n)) (ap (λ (k : ℕ). take k (g .ids)) m ∙ sym (take-min (g .count) (g .ids)))
+
+  pub groups-seen : seen-list ≡ groupList (take (min (g .count) 16) found)
+      → _≡_ {A = Groups} (record { three = record { real = getD found 16 0; effective = getD found 17 0; saved = getD found 18 0 }; list = seen-list })
+      (record { three = seenIds s Group n three; list = seenGroups s n g })
+  unfolding seenGroups
+  groups-seen e = λ i. record {
+    three = record { real = own-at 0 i; effective = own-at 1 i; saved = own-at 2 i };
+    list = (e ∙ ap groupList list-is) i;
+  }
 
 -- ---- the call
 module _ (s : State) (c : ℕ) (r : Found) (named : r ≡ processNamed s c) where
@@ -55,10 +99,10 @@ module _ (s : State) (c : ℕ) (r : Found) (named : r ≡ processNamed s c) wher
   unfolding ownIdsOf groupList
   own-nobody e = rw (← named, e)
 
-  pub own-found : (i : ℕ) (p : Process) (a b : Ids) (g : GroupList) → r ≡ At i → p ≡ processAt s i → a ≡ seenIds s User (p .namespace) (p .users)
-      → b ≡ seenIds s Group (p .namespace) (p .groups) → g ≡ seenGroups s (p .namespace) (p .supplementary)
-      → _≡_ {A = OwnIds} (record { answer = Own; users = a; groups = b; supplementary = g }) (ownIdsOf s c)
+  pub own-found : (i : ℕ) (p : Process) (a : Ids) (g : Groups) → r ≡ At i → p ≡ processAt s i → a ≡ seenIds s User (p .namespace) (p .users)
+      → g ≡ record { three = seenIds s Group (p .namespace) (p .groups); list = seenGroups s (p .namespace) (p .supplementary) }
+      → _≡_ {A = OwnIds} (record { answer = Own; users = a; groups = g .three; supplementary = g .list }) (ownIdsOf s c)
   unfolding ownIdsOf
-  own-found i p a b g at read ea eb eg = rw (← named, at, ← read, ea, eb, eg)
+  own-found i p a g at read ea eg = rw (← named, at, ← read, ea, eg)
 
-pub ruleset showing = (shown-by, seen-is, seen-three, seen-groups-are, own-nobody, own-found, needs)
+pub ruleset showing = (shown-by, seen-three, groups-seen, own-nobody, own-found, needs)

@@ -5,10 +5,12 @@ ghost use Prim.Native.Nat.{_≤_};
 ghost use lib.ListN.{length};
 ghost use Rattle.tables.specs.Tables.{tablesOf};
 ghost use Rattle.tables.specs.Reply.{Promise};
-ghost use Rattle.credentials.specs.Calls.{groupList, withList, kernelGroups, listedOf, setGroupsOf};
+ghost use Rattle.credentials.specs.Calls.{withList, kernelGroups, listedOf, setGroupsOf};
+use crate::batching::all_ids;
+use crate::batching::batch_of;
+use crate::batching::group_list;
 use hierarchy::batch::to_kernel_each;
 use hierarchy::capable::capable;
-use idmap::batch::all_ids;
 use records::GroupList;
 use records::Kind;
 use records::Process;
@@ -40,38 +42,18 @@ fn none_listed() -> Listed
     }
 }
 
-// A list of at most 16 groups, with 0 in the places past its end.
-fn group_list(list: &[u32]) -> GroupList
-    requires { ⌜ length (now list) ≤ 16 ⌝ }
-    ensures { λ r. ⌜ r ≡ groupList (now (list .entry)) ⌝ }
-{
-    let mut ids = [0u32; 16];
-    let mut i: usize = 0;
-    while i < list.len() {
-        ids[i] = list[i];
-        i += 1;
-    }
-    GroupList {
-        count: i as u64,
-        ids: ids,
-    }
-}
-
 // The kernel IDs of at most 16 groups, in order.
 fn kernel_groups(t: &Tables, namespace: u64, list: &[u32]) -> Listed
     requires { ⌜ length (now list) ≤ 16 ⌝ }
     ensures { λ r. ⌜ r ≡ listedOf (kernelGroups (tablesOf (now (t .entry))) «namespace» (now (list .entry))) ⌝ }
 {
-    let given = group_list(list);
-    let ids = given.ids;
-    let kernel = to_kernel_each(t, Kind::Group, namespace, ids, list.len());
-    if all_ids(kernel) {
+    let kernel = to_kernel_each(t, Kind::Group, namespace, batch_of(list));
+    let groups = group_list(kernel, list.len());
+    let ids = groups.ids;
+    if all_ids(ids) {
         Listed {
             mapped: true,
-            groups: GroupList {
-                count: given.count,
-                ids: kernel,
-            },
+            groups: groups,
         }
     } else {
         none_listed()

@@ -4,9 +4,12 @@ ghost use Rattle.idmap.specs.Line.{linesIn};
 ghost use Rattle.tables.specs.Tables.{tablesOf};
 ghost use Rattle.hierarchy.specs.Walks.{fromKernelBy};
 ghost use Rattle.credentials.specs.Calls.{shownAs, seenIds, seenGroups, ownIdsOf};
+use crate::batching::group_list;
+use crate::batching::own_batch;
+use hierarchy::batch::Known;
 use hierarchy::batch::from_kernel_each;
+use hierarchy::batch::known_for;
 use hierarchy::translate::from_kernel_by;
-use idmap::batch::places;
 use idmap::lookup::id_or;
 use records::GroupList;
 use records::Ids;
@@ -35,31 +38,64 @@ fn seen_by(t: &Tables, kind: Kind, lines: &[u64], base: u64, namespace: u64, id:
     id_or(from_kernel_by(t, kind, lines, base, namespace, id), 65534)
 }
 
+// Three IDs. One that is the same as the one before it is not looked up again.
 fn seen_ids(t: &Tables, kind: Kind, namespace: u64, ids: Ids) -> Ids
     ensures { λ r. ⌜ r ≡ seenIds (tablesOf (now (t .entry))) kind «namespace» ids ⌝ }
 {
     let lines = lifted_lines(t, namespace as usize, kind);
     let base = lifted_base(t, namespace as usize, kind);
-    let real = seen_by(t, kind, lines, base, namespace, ids.real);
-    let effective = seen_by(t, kind, lines, base, namespace, ids.effective);
-    let saved = seen_by(t, kind, lines, base, namespace, ids.saved);
+    let real = Known {
+        id: ids.real,
+        found: seen_by(t, kind, lines, base, namespace, ids.real),
+    };
+    let effective = known_for(
+        t,
+        kind,
+        true,
+        lines,
+        base,
+        namespace,
+        ids.effective,
+        65534,
+        real,
+    );
+    let saved = known_for(
+        t,
+        kind,
+        true,
+        lines,
+        base,
+        namespace,
+        ids.saved,
+        65534,
+        effective,
+    );
     Ids {
-        real: real,
-        effective: effective,
-        saved: saved,
+        real: real.found,
+        effective: effective.found,
+        saved: saved.found,
     }
 }
 
-// The supplementary groups in order.
-fn seen_groups(t: &Tables, namespace: u64, groups: GroupList) -> GroupList
-    ensures { λ r. ⌜ r ≡ seenGroups (tablesOf (now (t .entry))) «namespace» groups ⌝ }
+// A process's own three group IDs and its supplementary groups.
+struct Groups {
+    three: Ids,
+    list: GroupList,
+}
+
+// All group IDs of a process, those of the list in order.
+fn seen_groups(t: &Tables, namespace: u64, three: Ids, list: GroupList) -> Groups
+    ensures { λ r. ⌜ r ≡ record { three = seenIds (tablesOf (now (t .entry))) Kind.Group «namespace» three; list = seenGroups (tablesOf (now (t .entry))) «namespace» list } ⌝ }
 {
-    let kernel = groups.ids;
-    let count = places(groups.count as usize);
-    let seen = from_kernel_each(t, Kind::Group, namespace, kernel, count, 65534);
-    GroupList {
-        count: count as u64,
-        ids: seen,
+    let kernel = list.ids;
+    let seen = from_kernel_each(t, Kind::Group, namespace, own_batch(kernel, three), 65534);
+    Groups {
+        three: Ids {
+            real: seen[16],
+            effective: seen[17],
+            saved: seen[18],
+        },
+        list: group_list(seen, list.count as usize),
     }
 }
 
@@ -89,8 +125,9 @@ pub fn own_ids(t: &Tables, caller: u64) -> OwnIds
     let groups = p.groups;
     let supplementary = p.supplementary;
     let seen_users = seen_ids(t, Kind::User, p.namespace, users);
-    let seen_own = seen_ids(t, Kind::Group, p.namespace, groups);
-    let seen_list = seen_groups(t, p.namespace, supplementary);
+    let seen = seen_groups(t, p.namespace, groups, supplementary);
+    let seen_own = seen.three;
+    let seen_list = seen.list;
     OwnIds {
         answer: Answer::Own,
         users: seen_users,

@@ -1,27 +1,27 @@
--- Translation of sixteen IDs at once, in the words of the code: each law's premises are what a place knows. Assumes nothing.
-use Prim.Native.Nat.{ℕ, zero, suc, _+_, _≤_, _<_, min}
+-- Translation of twenty IDs at once, in the words of the code: each law's premises are what a place knows. Assumes nothing.
+use Prim.Native.Nat.{ℕ, zero, suc, _+_, _≤_, _<_}
 use mathlib.Core.Path.{_≡_, refl, sym, ap, _∙_}
 use mathlib.Core.Bool.{Bool, true, false, cond}
 use mathlib.Core.List.{List, map, map-id, zipWith}
 use native.Mathlib.Omega.{arith}
 use lib.Dec.{eqb}
-use lib.ListN.{length, take, getD, set, replicate, length-map, List·getD-map}
+use lib.ListN.{length, take, getD, set, length-map, List·getD-map}
 use borrow.Author.Needs.{needs}
 use borrow.Author.Tests.{eq-eqb, ne-eqb, eqb-true, eqb-false}
 use Rattle.prelude.proofs.Tests.{by-test}
-use Rattle.prelude.proofs.Lists.{zip-map, zip-step, zip-all}
+use Rattle.prelude.proofs.Lists.{copy-step, copy-all, zip-map, zip-step, zip-all}
 use Rattle.idmap.specs.declared.Line.{Line}
 use Rattle.idmap.specs.declared.Translated.{Translated}
 use Rattle.idmap.specs.declared.Translated.the-variants.{Id, Unmapped}
 use Rattle.idmap.specs.Good.{noId}
 use Rattle.idmap.specs.Lookup.{out, thenId, flip, back, idOr}
-use Rattle.idmap.specs.Batch.{outEach, backEach, firstOf}
-use Rattle.idmap.proofs.Batches.{PlacedTo, placed-starts, placed-step, placed-all}
+use Rattle.idmap.specs.Batch.{outEach, backEach}
 use Rattle.records.specs.declared.Kind.{Kind}
 use Rattle.lifted_map.specs.Lift.{Lifted}
 use Rattle.tables.specs.Tables.{State, liftedAt}
+use Rattle.hierarchy.specs.declared.batch.Known.{Known}
 use Rattle.hierarchy.specs.Walks.{itself, outIn, toKernelBy, toKernel, fromKernelBy, fromKernel}
-use Rattle.hierarchy.specs.Batch.{turnedBy, orElse, eachBy, toKernelEach, fromKernelEach}
+use Rattle.hierarchy.specs.Batch.{turnedBy, orElse, eachBy, toKernelEach, fromKernelEach, knownBy}
 use Rattle.hierarchy.proofs.Translations.{to-first, from-first, to-kernel-root, from-kernel-root}
 
 -- ---- turn
@@ -31,31 +31,55 @@ turned-back b s kind m n x r t e = rw t e
 pub turned-out : (b : Bool) (s : State) (kind : Kind) (m : Lifted) (n x : ℕ) (r : Translated) → b ≡ false → r ≡ toKernelBy s kind m n x → r ≡ turnedBy b s kind m n x
 turned-out b s kind m n x r t e = rw t e
 
--- ---- singly: the first i of sixteen are in place, and the others are 0
+-- ---- known: an ID with what is found for it
+unfoldable pub Knows : (ℕ → Translated) → ℕ → Known → Type 0
+Knows f other k = k .found ≡ idOr other (f (k .id))
+
+pub known-same : (f : ℕ → Translated) (other : ℕ) (before : Known) (x : ℕ) → x ≡ before .id → before ≡ knownBy f other before x
+known-same f other before x e = rw (eq-eqb x (before .id) e)
+
+pub known-anew : (f : ℕ → Translated) (other : ℕ) (before : Known) (x y : ℕ) (r : Translated) → (x ≡ before .id → ⊥) → r ≡ f x → y ≡ idOr other r
+    → record { id = x; found = y } ≡ knownBy f other before x
+known-anew f other before x y r ne found e = rw (ne-eqb x (before .id) ne, e, found)
+
+-- ---- singly: the first i of twenty are in place
 pub SinglyTo : (ℕ → Translated) → ℕ → List ℕ → List ℕ → ℕ → Type 0
-SinglyTo f other ids r i = PlacedTo (map (λ (x : ℕ). idOr other (f x)) ids) r i
+SinglyTo f other ids r i = take i r ≡ take i (eachBy f other ids)
 
 module _ (f : ℕ → Translated) (other : ℕ) (ids : List ℕ) where
-  pub singly-starts : SinglyTo f other ids (replicate 16 0) 0
+  pub singly-starts : (r : List ℕ) → SinglyTo f other ids r 0
   unfolding SinglyTo
-  singly-starts = placed-starts (map (λ (x : ℕ). idOr other (f x)) ids)
+  singly-starts r = refl
 
-  one : ℕ → ℕ
-  one x = idOr other (f x)
+  pub knows-first : (r : Translated) (y : ℕ) → r ≡ f 0 → y ≡ idOr other r → Knows f other (record { id = 0; found = y })
+  unfolding Knows
+  knows-first r y found e = e ∙ ap (idOr other) found
 
-  module _ (r : List ℕ) (i : ℕ) (inv : SinglyTo f other ids r i) (long : length r ≡ 16) (same : length ids ≡ 16) (n end : ℕ) (few : end ≡ min n 16) where
-    full : length (map one ids) ≡ 16
-    full = length-map ids one ∙ same
+  -- what is known of the ID at place i
+  pub found-at : (last k : Known) (x : ℕ) → Knows f other last → k ≡ knownBy f other last x → (k .found ≡ idOr other (f x)) × Knows f other k
+  unfolding Knows
+  found-at last k x inv e =
+      by-test (eqb x (last .id))
+      (λ t.
+      let q : k ≡ last = e ∙ rw t in
+      let same : x ≡ last .id = eqb-true x (last .id) t in
+      (rw (q, same) inv, rw q inv))
+      (λ t. let q : k ≡ record { id = x; found = idOr other (f x) } = e ∙ rw t in (rw q, rw q))
 
-    pub singly-step : (g : Translated) (v : ℕ) → i < end → g ≡ f (getD ids i 0) → v ≡ idOr other g → SinglyTo f other ids (set r i v) (i + 1)
-    unfolding SinglyTo one
-    singly-step g v h found e =
-        let at : v ≡ getD (map one ids) i (one 0) = e ∙ ap (idOr other) found ∙ sym (List·getD-map one ids i 0) in
-        placed-step (map one ids) r i inv long (one 0) v (omega arith) (omega (arith, full)) at
+  module _ (r : List ℕ) (i : ℕ) (last k : Known) (knows : Knows f other last) (e : k ≡ knownBy f other last (getD ids i 0)) where
+    pub knows-next : Knows f other k
+    knows-next = found-at last k (getD ids i 0) knows e .1
 
-    pub singly-all : i ≤ end → end ≤ i → r ≡ eachBy f other n ids
-    unfolding SinglyTo eachBy one
-    singly-all h k = placed-all (map one ids) r i inv long n end few full h k
+    pub singly-step : SinglyTo f other ids r i → length r ≡ 20 → length ids ≡ 20 → i < 20 → SinglyTo f other ids (set r i (k .found)) (i + 1)
+    unfolding SinglyTo eachBy
+    singly-step inv long same h =
+        let one : ℕ → ℕ = λ x. idOr other (f x) in
+        let at : k .found ≡ getD (map one ids) i (one 0) = found-at last k (getD ids i 0) knows e .0 ∙ sym (List·getD-map one ids i 0) in
+        ap (λ (w : ℕ). take (i + 1) (set r i w)) at ∙ copy-step (map one ids) r i 20 inv long (length-map ids one ∙ same) (one 0) h
+
+  pub singly-all : (r : List ℕ) (i : ℕ) → SinglyTo f other ids r i → length r ≡ 20 → length ids ≡ 20 → 20 ≤ i → r ≡ eachBy f other ids
+  unfolding SinglyTo eachBy
+  singly-all r i inv long same h = copy-all (map (λ (x : ℕ). idOr other (f x)) ids) r i 20 inv long (length-map ids (λ (x : ℕ). idOr other (f x)) ∙ same) h
 
 -- ---- or_else, without_no_id
 pub or-other : (other id found : ℕ) → id ≡ 4294967295 → other ≡ orElse other id found
@@ -72,14 +96,14 @@ module _ (other : ℕ) (ids found r : List ℕ) where
   unfolding OrElseTo
   or-else-starts = refl
 
-  module _ (i : ℕ) (inv : OrElseTo other ids found r i) (long : length r ≡ 16) (one : length ids ≡ 16) (two : length found ≡ 16) where
-    pub or-else-step : (v : ℕ) → i < 16 → v ≡ orElse other (getD ids i 0) (getD found i 0) → OrElseTo other ids found (set r i v) (i + 1)
+  module _ (i : ℕ) (inv : OrElseTo other ids found r i) (long : length r ≡ 20) (one : length ids ≡ 20) (two : length found ≡ 20) where
+    pub or-else-step : (v : ℕ) → i < 20 → v ≡ orElse other (getD ids i 0) (getD found i 0) → OrElseTo other ids found (set r i v) (i + 1)
     unfolding OrElseTo
-    or-else-step v h e = zip-step (orElse other) ids found r i 16 inv long one two 0 0 v h e
+    or-else-step v h e = zip-step (orElse other) ids found r i 20 inv long one two 0 0 v h e
 
-    pub or-else-all : 16 ≤ i → r ≡ zipWith (orElse other) ids found
+    pub or-else-all : 20 ≤ i → r ≡ zipWith (orElse other) ids found
     unfolding OrElseTo
-    or-else-all h = zip-all (orElse other) ids found r i 16 inv long one two h
+    or-else-all h = zip-all (orElse other) ids found r i 20 inv long one two h
 
 -- ---- to_kernel_each, from_kernel_each
 -- two functions that agree at each ID agree at all of them
@@ -100,50 +124,48 @@ itself-else other x = by-test (eqb x noId) (λ t. rw t) (λ t. rw t)
 itself-then-else : (other x : ℕ) (f : ℕ → Translated) → orElse other x (idOr other (f x)) ≡ idOr other (thenId (itself x) f)
 itself-then-else other x f = by-test (eqb x noId) (λ t. rw t) (λ t. rw t)
 
-module _ (s : State) (kind : Kind) (n count : ℕ) (ids r : List ℕ) where
-  pub to-each-root : n ≡ 0 → r ≡ firstOf count ids → r ≡ toKernelEach s kind n count ids
+module _ (s : State) (kind : Kind) (n : ℕ) (ids r : List ℕ) where
+  pub to-each-root : n ≡ 0 → ids ≡ toKernelEach s kind n ids
   unfolding eachBy
-  to-each-root z e =
+  to-each-root z =
       let one : (x : ℕ) → idOr noId (toKernel s kind n x) ≡ x = λ x. rw z (ap (idOr noId) (to-kernel-root s kind x) ∙ itself-or x) in
-      e ∙ ap (firstOf count) (sym (each-same (λ x. idOr noId (toKernel s kind n x)) (λ x. x) ids one ∙ map-id ids))
+      sym (each-same (λ x. idOr noId (toKernel s kind n x)) (λ x. x) ids one ∙ map-id ids)
 
-  pub from-each-root : (other : ℕ) (found : List ℕ) → n ≡ 0 → found ≡ zipWith (orElse other) ids ids → r ≡ firstOf count found → r ≡ fromKernelEach s kind n other count ids
+  pub from-each-root : (other : ℕ) → n ≡ 0 → r ≡ zipWith (orElse other) ids ids → r ≡ fromKernelEach s kind n other ids
   unfolding eachBy
-  from-each-root other found z m e =
+  from-each-root other z e =
       let one : (x : ℕ) → orElse other x x ≡ idOr other (fromKernel s kind n x) = λ x. rw z (itself-else other x ∙ ap (idOr other) (sym (from-kernel-root s kind x))) in
       let joined : zipWith (orElse other) ids ids ≡ map (λ (x : ℕ). orElse other x x) ids = rw map-id at (zip-map (orElse other) (λ x. x) ids) in
-      e ∙ ap (firstOf count) (m ∙ joined ∙ each-same (λ x. orElse other x x) (λ x. idOr other (fromKernel s kind n x)) ids one)
+      e ∙ joined ∙ each-same (λ x. orElse other x x) (λ x. idOr other (fromKernel s kind n x)) ids one
 
   module _ (below : n ≡ 0 → ⊥) (ls : List Line) (b : ℕ) (lines : ls ≡ liftedAt s kind n .lines) (base : b ≡ liftedAt s kind n .base) where
     own-map : _≡_ {A = Lifted} (record { base = b; lines = ls }) (liftedAt s kind n)
     own-map i = record { base = base i; lines = lines i }
 
-    pub to-each-singly : r ≡ eachBy (turnedBy false s kind (record { base = b; lines = ls }) n) noId count ids → r ≡ toKernelEach s kind n count ids
+    pub to-each-singly : r ≡ eachBy (turnedBy false s kind (record { base = b; lines = ls }) n) noId ids → r ≡ toKernelEach s kind n ids
     unfolding toKernel
-    to-each-singly e = e ∙ ap (λ (m : Lifted). eachBy (toKernelBy s kind m n) noId count ids) own-map
+    to-each-singly e = e ∙ ap (λ (m : Lifted). eachBy (toKernelBy s kind m n) noId ids) own-map
 
-    pub from-each-singly : (other : ℕ) → r ≡ eachBy (turnedBy true s kind (record { base = b; lines = ls }) n) other count ids → r ≡ fromKernelEach s kind n other count ids
+    pub from-each-singly : (other : ℕ) → r ≡ eachBy (turnedBy true s kind (record { base = b; lines = ls }) n) other ids → r ≡ fromKernelEach s kind n other ids
     unfolding fromKernel
-    from-each-singly other e = e ∙ ap (λ (m : Lifted). eachBy (fromKernelBy s kind m n) other count ids) own-map
+    from-each-singly other e = e ∙ ap (λ (m : Lifted). eachBy (fromKernelBy s kind m n) other ids) own-map
 
-    pub to-each-once : (found : List ℕ) → b ≤ 0 → found ≡ outEach noId ls ids → r ≡ firstOf count found → r ≡ toKernelEach s kind n count ids
+    pub to-each-once : b ≤ 0 → r ≡ outEach noId ls ids → r ≡ toKernelEach s kind n ids
     unfolding eachBy outEach toKernel
-    to-each-once found h m e =
+    to-each-once h e =
         let one : (x : ℕ) → idOr noId (out ls x) ≡ idOr noId (toKernelBy s kind (liftedAt s kind n) n x) = λ x.
         then-itself-or (out ls x) ∙ ap (idOr noId) (sym (to-first s kind ls b n x Unmapped below h)) ∙ ap (λ (l : Lifted). idOr noId (toKernelBy s kind l n x)) own-map in
-        e ∙ ap (firstOf count) (m ∙ each-same (λ x. idOr noId (out ls x)) (λ x. idOr noId (toKernelBy s kind (liftedAt s kind n) n x)) ids one)
+        e ∙ each-same (λ x. idOr noId (out ls x)) (λ x. idOr noId (toKernelBy s kind (liftedAt s kind n) n x)) ids one
 
-    pub from-each-once : (other : ℕ) (found kept : List ℕ) → b ≤ 0 → found ≡ backEach other ls ids → kept ≡ zipWith (orElse other) ids found → r ≡ firstOf count kept → r ≡ fromKernelEach s kind n other count ids
+    pub from-each-once : (other : ℕ) (found : List ℕ) → b ≤ 0 → found ≡ backEach other ls ids → r ≡ zipWith (orElse other) ids found → r ≡ fromKernelEach s kind n other ids
     unfolding eachBy outEach fromKernel
-    from-each-once other found kept h m k e =
+    from-each-once other found h m e =
         let one : (x : ℕ) → orElse other x (idOr other (back ls x)) ≡ idOr other (fromKernelBy s kind (liftedAt s kind n) n x) = λ x.
         itself-then-else other x (back ls) ∙ ap (idOr other) (sym (from-first s kind ls b n x below h)) ∙ ap (λ (l : Lifted). idOr other (fromKernelBy s kind l n x)) own-map in
         e
-        ∙ ap (firstOf count)
-        (k
         ∙ ap (zipWith (orElse other) ids) m
         ∙ zip-map (orElse other) (λ x. idOr other (back ls x)) ids
-        ∙ each-same (λ x. orElse other x (idOr other (back ls x))) (λ x. idOr other (fromKernelBy s kind (liftedAt s kind n) n x)) ids one)
+        ∙ each-same (λ x. orElse other x (idOr other (back ls x))) (λ x. idOr other (fromKernelBy s kind (liftedAt s kind n) n x)) ids one
 
 -- ---- a kernel ID is never 'no ID', so that 'no ID' says that there is none
 known-itself : (x : ℕ) → itself x ≡ itself (idOr noId (itself x))
@@ -174,7 +196,11 @@ module _ (s : State) (kind : Kind) where
 pub ruleset translating = (
   turned-back,
   turned-out,
+  known-same,
+  known-anew,
   singly-starts,
+  knows-first,
+  knows-next,
   singly-step,
   singly-all,
   or-other,

@@ -1,4 +1,4 @@
--- Translation of sixteen IDs at once. Assumes nothing.
+-- Translation of twenty IDs at once. Assumes nothing.
 use Prim.Native.Nat.{ℕ}
 use mathlib.Core.Bool.{Bool, true, false, cond}
 use mathlib.Core.List.{List, map}
@@ -6,10 +6,10 @@ use lib.Dec.{eqb}
 use Rattle.idmap.specs.declared.Translated.{Translated}
 use Rattle.idmap.specs.Good.{noId}
 use Rattle.idmap.specs.Lookup.{idOr}
-use Rattle.idmap.specs.Batch.{firstOf}
 use Rattle.records.specs.declared.Kind.{Kind}
 use Rattle.lifted_map.specs.Lift.{Lifted}
 use Rattle.tables.specs.Tables.{State}
+use Rattle.hierarchy.specs.declared.batch.Known.{Known}
 use Rattle.hierarchy.specs.Walks.{toKernelBy, toKernel, fromKernelBy, fromKernel}
 
 -- one translation, out or back
@@ -21,12 +21,16 @@ turnedBy false = toKernelBy
 abbrev pub orElse : ℕ → ℕ → ℕ → ℕ
 orElse other id found = cond (eqb id noId) other found
 
--- a translation of each of the first n of sixteen IDs: another value where there is none, and 0 in the other places
-unfoldable pub eachBy : (ℕ → Translated) → ℕ → ℕ → List ℕ → List ℕ
-eachBy f other n ids = firstOf n (map (λ (x : ℕ). idOr other (f x)) ids)
+-- a translation of each of the IDs: another value where there is none
+unfoldable pub eachBy : (ℕ → Translated) → ℕ → List ℕ → List ℕ
+eachBy f other ids = map (λ (x : ℕ). idOr other (f x)) ids
 
-abbrev pub toKernelEach : State → Kind → ℕ → ℕ → List ℕ → List ℕ
-toKernelEach s kind place n ids = eachBy (toKernel s kind place) noId n ids
+abbrev pub toKernelEach : State → Kind → ℕ → List ℕ → List ℕ
+toKernelEach s kind place ids = eachBy (toKernel s kind place) noId ids
 
-abbrev pub fromKernelEach : State → Kind → ℕ → ℕ → ℕ → List ℕ → List ℕ
-fromKernelEach s kind place other n ids = eachBy (fromKernel s kind place) other n ids
+abbrev pub fromKernelEach : State → Kind → ℕ → ℕ → List ℕ → List ℕ
+fromKernelEach s kind place other ids = eachBy (fromKernel s kind place) other ids
+
+-- an ID with what was found for it, and the same for another ID: what is known already where that is the same one
+abbrev pub knownBy : (ℕ → Translated) → ℕ → Known → ℕ → Known
+knownBy f other before x = cond (eqb x (before .id)) before (record { id = x; found = idOr other (f x) })

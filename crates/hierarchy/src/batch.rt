@@ -1,17 +1,15 @@
-// Translation of sixteen IDs at once between a namespace and the initial one.
+// Translation of twenty IDs at once between a namespace and the initial one.
 ghost use mathlib.Core.Path.{_≡_};
 ghost use mathlib.Core.List.{zipWith};
 ghost use Rattle.idmap.specs.Line.{linesIn};
 ghost use Rattle.tables.specs.Tables.{tablesOf};
-ghost use Rattle.hierarchy.specs.Batch.{turnedBy, eachBy, orElse, toKernelEach, fromKernelEach};
+ghost use Rattle.hierarchy.specs.Batch.{turnedBy, knownBy, eachBy, orElse, toKernelEach, fromKernelEach};
 use crate::translate::from_kernel_by;
 use crate::translate::to_kernel_by;
 use idmap::Translated;
 use idmap::batch::Batch;
-use idmap::batch::first_of;
 use idmap::batch::lookup_back_each;
 use idmap::batch::lookup_out_each;
-use idmap::batch::places;
 use idmap::lookup::id_or;
 use records::Kind;
 use tables::Tables;
@@ -37,7 +35,36 @@ fn turn(
     }
 }
 
-// The first `count` IDs, one after the other; `other` where there is no translation, and 0 in the other places.
+// An ID, and what was found for it.
+pub struct Known {
+    pub id: u32,
+    pub found: u32,
+}
+
+// What is found for an ID: what is known already where it is the same one, else a translation, or `other` where there is none.
+pub fn known_for(
+    t: &Tables,
+    kind: Kind,
+    backward: bool,
+    lines: &[u64],
+    base: u64,
+    place: u64,
+    id: u32,
+    other: u32,
+    before: Known,
+) -> Known
+    ensures { λ r. ⌜ r ≡ knownBy (turnedBy backward (tablesOf (now (t .entry))) kind (record { base = base; lines = linesIn (now (lines .entry)) }) place) other before id ⌝ }
+{
+    if id == before.id {
+        return before;
+    }
+    Known {
+        id: id,
+        found: id_or(turn(t, kind, backward, lines, base, place, id), other),
+    }
+}
+
+// The IDs, one after the other; `other` where there is no translation.
 fn singly(
     t: &Tables,
     kind: Kind,
@@ -46,16 +73,19 @@ fn singly(
     base: u64,
     place: u64,
     ids: Batch,
-    count: usize,
     other: u32,
 ) -> Batch
-    ensures { λ r. ⌜ r ≡ eachBy (turnedBy backward (tablesOf (now (t .entry))) kind (record { base = base; lines = linesIn (now (lines .entry)) }) place) other count ids ⌝ }
+    ensures { λ r. ⌜ r ≡ eachBy (turnedBy backward (tablesOf (now (t .entry))) kind (record { base = base; lines = linesIn (now (lines .entry)) }) place) other ids ⌝ }
 {
-    let end = places(count);
-    let mut r: Batch = [0; 16];
+    let mut last = Known {
+        id: 0,
+        found: id_or(turn(t, kind, backward, lines, base, place, 0), other),
+    };
+    let mut r: Batch = [0; 20];
     let mut i: usize = 0;
-    while i < end {
-        r[i] = id_or(turn(t, kind, backward, lines, base, place, ids[i]), other);
+    while i < 20 {
+        last = known_for(t, kind, backward, lines, base, place, ids[i], other, last);
+        r[i] = last.found;
         i += 1;
     }
     r
@@ -74,49 +104,39 @@ fn without_no_id(ids: Batch, found: Batch, other: u32) -> Batch
 {
     let mut r = found;
     let mut i: usize = 0;
-    while i < 16 {
+    while i < 20 {
         r[i] = or_else(ids[i], found[i], other);
         i += 1;
     }
     r
 }
 
-// The kernel IDs that the first `count` IDs of a namespace stand for; 'no ID' where there is none, and 0 in the other places.
-pub fn to_kernel_each(t: &Tables, kind: Kind, place: u64, ids: Batch, count: usize) -> Batch
-    ensures { λ r. ⌜ r ≡ toKernelEach (tablesOf (now (t .entry))) kind place count ids ⌝ }
+// The kernel IDs that IDs of a namespace stand for; 'no ID' where there is none.
+pub fn to_kernel_each(t: &Tables, kind: Kind, place: u64, ids: Batch) -> Batch
+    ensures { λ r. ⌜ r ≡ toKernelEach (tablesOf (now (t .entry))) kind place ids ⌝ }
 {
     if place == 0 {
-        return first_of(ids, count);
+        return ids;
     }
     let lines = lifted_lines(t, place as usize, kind);
     let base = lifted_base(t, place as usize, kind);
     if 0 < base {
-        return singly(t, kind, false, lines, base, place, ids, count, 4294967295);
+        return singly(t, kind, false, lines, base, place, ids, 4294967295);
     }
-    first_of(lookup_out_each(lines, ids, 4294967295), count)
+    lookup_out_each(lines, ids, 4294967295)
 }
 
-// The IDs of a namespace that stand for the first `count` kernel IDs; `other` where there is none, and 0 in the other places.
-pub fn from_kernel_each(
-    t: &Tables,
-    kind: Kind,
-    place: u64,
-    ids: Batch,
-    count: usize,
-    other: u32,
-) -> Batch
-    ensures { λ r. ⌜ r ≡ fromKernelEach (tablesOf (now (t .entry))) kind place other count ids ⌝ }
+// The IDs of a namespace that stand for kernel IDs; `other` where there is none.
+pub fn from_kernel_each(t: &Tables, kind: Kind, place: u64, ids: Batch, other: u32) -> Batch
+    ensures { λ r. ⌜ r ≡ fromKernelEach (tablesOf (now (t .entry))) kind place other ids ⌝ }
 {
     if place == 0 {
-        return first_of(without_no_id(ids, ids, other), count);
+        return without_no_id(ids, ids, other);
     }
     let lines = lifted_lines(t, place as usize, kind);
     let base = lifted_base(t, place as usize, kind);
     if 0 < base {
-        return singly(t, kind, true, lines, base, place, ids, count, other);
+        return singly(t, kind, true, lines, base, place, ids, other);
     }
-    first_of(
-        without_no_id(ids, lookup_back_each(lines, ids, other), other),
-        count,
-    )
+    without_no_id(ids, lookup_back_each(lines, ids, other), other)
 }

@@ -1,21 +1,19 @@
 -- Lookups of several IDs at once, in the words of the code: each law's premises are what a place knows. Assumes nothing.
-use Prim.Native.Nat.{ℕ, _+_, _*_, _-_, _/_, _≤_, _<_, _%_, _^_, min}
+use Prim.Native.Nat.{ℕ, _+_, _*_, _-_, _/_, _≤_, _<_, _%_, _^_}
 use mathlib.Core.Path.{_≡_, refl, sym, ap, _∙_}
 use mathlib.Core.Bool.{Bool, true, false, cond}
-use mathlib.Core.List.{List, [], _∷_, _++_, map, map-id, zipWith}
-use native.Mathlib.Numerals.{add-one}
+use mathlib.Core.List.{List, [], _∷_, map, map-id, zipWith}
 use native.Mathlib.Omega.{arith}
-use lib.ListN.{length, take, drop, getD, set, replicate, drop-of-length-le}
-use lib.Seq.{drop-cons, take-suc, take-suc-set}
+use lib.ListN.{length, take, drop, getD, set, replicate}
 use borrow.Author.Needs.{needs}
-use borrow.Author.Tests.{lt-ltb, le-ltb, eq-eqb, ne-eqb}
-use Rattle.prelude.proofs.Lists.{take-min, zip-step, zip-all, zip-map, made-so-far, rest-empty}
+use borrow.Author.Tests.{lt-ltb, le-ltb}
+use Rattle.prelude.proofs.Lists.{zip-map, zip-step, zip-all}
 use Rattle.idmap.specs.declared.Line.{Line}
 use Rattle.idmap.specs.declared.Translated.{Translated}
 use Rattle.idmap.specs.declared.Translated.the-variants.{Id, Unmapped}
 use Rattle.idmap.specs.Line.{lineAt, linesIn}
 use Rattle.idmap.specs.Lookup.{out, idOr, facingOf}
-use Rattle.idmap.specs.Batch.{movedOr, outEach, firstOf, allIds}
+use Rattle.idmap.specs.Batch.{movedOr, outEach}
 use Rattle.idmap.proofs.Words.{lines-step, lines-end}
 use Rattle.idmap.proofs.Lookups.{less-is}
 
@@ -27,7 +25,7 @@ module _ (l : Line) (id other d : ℕ) (e : (d + l .inside) % 2 ^ 32 ≡ id) (h 
   pub moved-miss : l .count ≤ d → other ≡ movedOr l id other
   moved-miss n = rw (← less-is id (l .inside) d e h k, le-ltb d (l .count) n)
 
--- ---- through: the first i of sixteen are in place
+-- ---- through: the first i of twenty are in place
 pub Through : Line → List ℕ → List ℕ → List ℕ → ℕ → Type 0
 Through l ids found r i = take i r ≡ take i (zipWith (movedOr l) ids found)
 
@@ -36,14 +34,14 @@ module _ (l : Line) (ids found r : List ℕ) where
   unfolding Through
   through-starts = refl
 
-  module _ (i : ℕ) (inv : Through l ids found r i) (long : length r ≡ 16) (one : length ids ≡ 16) (other : length found ≡ 16) where
-    pub through-step : (v : ℕ) → i < 16 → v ≡ movedOr l (getD ids i 0) (getD found i 0) → Through l ids found (set r i v) (i + 1)
+  module _ (i : ℕ) (inv : Through l ids found r i) (long : length r ≡ 20) (one : length ids ≡ 20) (other : length found ≡ 20) where
+    pub through-step : (v : ℕ) → i < 20 → v ≡ movedOr l (getD ids i 0) (getD found i 0) → Through l ids found (set r i v) (i + 1)
     unfolding Through
-    through-step v h e = zip-step (movedOr l) ids found r i 16 inv long one other 0 0 v h e
+    through-step v h e = zip-step (movedOr l) ids found r i 20 inv long one other 0 0 v h e
 
-    pub through-all : 16 ≤ i → r ≡ zipWith (movedOr l) ids found
+    pub through-all : 20 ≤ i → r ≡ zipWith (movedOr l) ids found
     unfolding Through
-    through-all h = zip-all (movedOr l) ids found r i 16 inv long one other h
+    through-all h = zip-all (movedOr l) ids found r i 20 inv long one other h
 
 -- ---- first_each: what the lines from line i on make of the IDs
 pub eachFrom : Bool → ℕ → List ℕ → ℕ → List ℕ → List ℕ
@@ -65,7 +63,7 @@ each-cons other l ls ids =
     ∙ simp id-or-cond
 
 module _ (b : Bool) (other : ℕ) (ws ids : List ℕ) where
-  pub each-starts : length ids ≡ 16 → replicate 16 other ≡ eachFrom b other ws (length ws / 3) ids
+  pub each-starts : length ids ≡ 20 → replicate 20 other ≡ eachFrom b other ws (length ws / 3) ids
   unfolding eachFrom outEach out
   each-starts long =
       rw (lines-end ws (length ws / 3 * 3) (omega arith)) (ap (λ (n : ℕ). replicate n other) (sym long) ∙ map-same other ids)
@@ -87,62 +85,6 @@ module _ (b : Bool) (other : ℕ) (ws ids : List ℕ) where
 pub each-forth : (other : ℕ) (ls : List Line) (ids r : List ℕ) → r ≡ outEach other (map (facingOf false) ls) ids → r ≡ outEach other ls ids
 each-forth other ls ids r e = rw map-id at e
 
--- ---- a batch of which the first i are in place and the others are 0
-pub PlacedTo : List ℕ → List ℕ → ℕ → Type 0
-PlacedTo made r i = (take i r ≡ take i made) × (drop i r ≡ replicate (16 - i) 0)
-
-pub placed-starts : (made : List ℕ) → PlacedTo made (replicate 16 0) 0
-unfolding PlacedTo
-placed-starts made = (refl, refl)
-
-module _ (made r : List ℕ) (i : ℕ) (inv : PlacedTo made r i) (long : length r ≡ 16) where
-  pub placed-step : (d v : ℕ) → i < 16 → i < length made → v ≡ getD made i d → PlacedTo made (set r i v) (i + 1)
-  unfolding PlacedTo
-  placed-step d v h k e = (
-    rw (add-one, take-suc-set r i v (omega arith), take-suc made i d k, inv .0, e),
-    rest-empty r i 16 0 (inv .1) v h,
-  )
-
-  pub placed-ends : (n : ℕ) → i ≤ 16 → i ≡ n → r ≡ firstOf n made
-  unfolding PlacedTo firstOf
-  placed-ends n room e = rw (← e, ← inv .0) (sym (made-so-far r i 16 0 (inv .1) long room .1))
-
-  -- a batch is copied, up to the end of the first n
-  module _ (n end : ℕ) (few : end ≡ min n 16) (full : length made ≡ 16) where
-    pub placed-copy : i < end → PlacedTo made (set r i (getD made i 0)) (i + 1)
-    placed-copy h = placed-step 0 (getD made i 0) (omega arith) (omega arith) refl
-
-    pub placed-all : i ≤ end → end ≤ i → r ≡ firstOf n made
-    unfolding firstOf
-    placed-all h k =
-        let rest : 16 - n ≡ 16 - i = omega arith in
-        let m : min n (length made) ≡ i = omega arith in
-        let front : take n made ≡ take i made = take-min n made ∙ ap (λ (j : ℕ). take j made) m in
-        placed-ends i (omega arith) refl ∙ sym (rw (front, rest))
-
--- ---- all_ids: what the rest from place i on says
-pub AllFrom : List ℕ → ℕ → Type 0
-AllFrom ids i = allIds ids ≡ allIds (drop i ids)
-
-module _ (ids : List ℕ) where
-  pub all-starts : AllFrom ids 0
-  unfolding AllFrom
-  all-starts = refl
-
-  module _ (i : ℕ) (inv : AllFrom ids i) (long : length ids ≡ 16) where
-    pub all-ends : 16 ≤ i → true ≡ allIds ids
-    unfolding AllFrom allIds
-    all-ends h = sym (inv ∙ rw (drop-of-length-le ids {i = i} (omega arith)))
-
-    module _ (h : i < 16) where
-      pub all-missing : getD ids i 0 ≡ 4294967295 → false ≡ allIds ids
-      unfolding AllFrom allIds
-      all-missing e = sym (inv ∙ rw (drop-cons ids i 0 (omega arith), eq-eqb (getD ids i 0) 4294967295 e))
-
-      pub all-next : (getD ids i 0 ≡ 4294967295 → ⊥) → AllFrom ids (i + 1)
-      unfolding AllFrom allIds
-      all-next e = inv ∙ rw (drop-cons ids i 0 (omega arith), ne-eqb (getD ids i 0) 4294967295 e, add-one)
-
 pub ruleset batches = (
   moved-hit,
   moved-miss,
@@ -153,12 +95,5 @@ pub ruleset batches = (
   each-step,
   each-ends,
   each-forth,
-  placed-starts,
-  placed-copy,
-  placed-all,
-  all-starts,
-  all-ends,
-  all-missing,
-  all-next,
   needs,
 )

@@ -1,17 +1,16 @@
-// Lookups of sixteen IDs at once through the lines of one map. Each line is tested against all of them, which a processor does for several IDs in one
+// Lookups of twenty IDs at once through the lines of one map. Each line is tested against all of them, which a processor does for several IDs in one
 // step and without a branch, so that the time depends on the number of lines alone.
 ghost use mathlib.Core.Path.{_≡_};
 ghost use mathlib.Core.List.{map, zipWith};
-ghost use Prim.Native.Nat.{min};
 ghost use Rattle.idmap.specs.Line.{linesIn};
 ghost use Rattle.idmap.specs.Lookup.{facingOf};
-ghost use Rattle.idmap.specs.Batch.{movedOr, outEach, backEach, firstOf, allIds};
+ghost use Rattle.idmap.specs.Batch.{movedOr, outEach, backEach};
 use crate::Line;
 use crate::lookup::facing;
 use crate::lookup::line_at;
 
-// Sixteen IDs, as many as a process has supplementary groups.
-pub type Batch = [u32; 16];
+// Twenty IDs: all group IDs of a process, which are 19, and one more, since a processor takes four in a step.
+pub type Batch = [u32; 20];
 
 // What `l` gives for an `id` that it holds, else `other`.
 fn moved_or(l: Line, id: u32, other: u32) -> u32
@@ -31,7 +30,7 @@ fn through(l: Line, ids: Batch, found: Batch) -> Batch
 {
     let mut r = found;
     let mut i: usize = 0;
-    while i < 16 {
+    while i < 20 {
         r[i] = moved_or(l, ids[i], found[i]);
         i += 1;
     }
@@ -43,7 +42,7 @@ fn through(l: Line, ids: Batch, found: Batch) -> Batch
 fn first_each(words: &[u64], ids: Batch, backward: bool, other: u32) -> Batch
     ensures { λ r. ⌜ r ≡ outEach other (map (facingOf backward) (linesIn (now (words .entry)))) ids ⌝ }
 {
-    let mut found: Batch = [other; 16];
+    let mut found: Batch = [other; 20];
     let mut i = words.len() / 3;
     while 0 < i {
         i -= 1;
@@ -66,39 +65,4 @@ pub fn lookup_back_each(words: &[u64], ids: Batch, other: u32) -> Batch
     ensures { λ r. ⌜ r ≡ backEach other (linesIn (now (words .entry))) ids ⌝ }
 {
     first_each(words, ids, true, other)
-}
-
-// As many of `count` as a batch has places for.
-pub fn places(count: usize) -> usize
-    ensures { λ r. ⌜ r ≡ min count 16 ⌝ }
-{
-    if count < 16 { count } else { 16 }
-}
-
-// The first `count` of the IDs, and 0 in the other places.
-pub fn first_of(ids: Batch, count: usize) -> Batch
-    ensures { λ r. ⌜ r ≡ firstOf count ids ⌝ }
-{
-    let end = places(count);
-    let mut r: Batch = [0; 16];
-    let mut i: usize = 0;
-    while i < end {
-        r[i] = ids[i];
-        i += 1;
-    }
-    r
-}
-
-// Whether none of them is 'no ID'.
-pub fn all_ids(ids: Batch) -> bool
-    ensures { λ r. ⌜ r ≡ allIds ids ⌝ }
-{
-    let mut i: usize = 0;
-    while i < 16 {
-        if ids[i] == 4294967295 {
-            return false;
-        }
-        i += 1;
-    }
-    true
 }

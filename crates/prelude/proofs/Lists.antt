@@ -85,3 +85,24 @@ module _ {A : Type 0} (made : List A) (i n : ℕ) (z : A) (rest : drop i made �
       let q : n - i ≡ suc (n - (i + 1)) = omega arith in
       let e : drop i made ≡ replicate (suc (n - (i + 1))) z = rw q at rest in
       drop-set-lt (i + 1) made i x (omega arith) ∙ sym (drop-drop 1 i made) ∙ ap (drop 1) e
+
+-- a loop that makes the first of them: the first i are those of another list
+pub MadeTo : {A : Type 0} → ℕ → A → List A → List A → ℕ → Type 0
+MadeTo n z made r i = (take i r ≡ take i made) × (drop i r ≡ replicate (n - i) z)
+
+module _ {A : Type 0} (n : ℕ) (z : A) (made : List A) where
+  pub made-starts : MadeTo n z made (replicate n z) 0
+  unfolding MadeTo
+  made-starts = let e : n - 0 ≡ n = omega arith in (refl, rw e)
+
+  module _ (r : List A) (i : ℕ) (inv : MadeTo n z made r i) (long : length r ≡ n) where
+    pub made-step : (d : A) → i < n → i < length made → MadeTo n z made (set r i (getD made i d)) (i + 1)
+    unfolding MadeTo
+    made-step d h k = (
+      rw (add-one, take-suc-set r i (getD made i d) (omega arith), take-suc made i d k, inv .0),
+      rest-empty r i n z (inv .1) (getD made i d) h,
+    )
+
+    pub made-ends : i ≤ n → r ≡ take i made ++ replicate (n - i) z
+    unfolding MadeTo
+    made-ends room = sym (rw (← inv .0) (made-so-far r i n z (inv .1) long room .1))

@@ -6,8 +6,9 @@ use Rattle.credentials.proofs.groups.kernel_groups.Tie as tie
 pub kernel-groups-spec : {M : Type 1} → statement M
 kernel-groups-spec =
     tie.close (tie.spec
-    (λ c κs. search grouping)  -- group-list-requires
+    (λ c κs. search grouping)  -- batch-of-requires
     (λ c κs. search grouping)  -- to-kernel-each-requires
+    (λ c κs. search grouping)  -- group-list-requires
     (λ c κs. search grouping)  -- all-ids-requires
     (λ c κs. search grouping)  -- none-listed-requires
     (λ c. search grouping)  -- returns

@@ -12,6 +12,5 @@ own-ids-spec =
     (λ c. search showing)  -- returns
     (λ c κs. search showing)  -- process-at-requires
     (λ c κs. search showing)  -- seen-ids-requires
-    (λ c κs. search showing)  -- seen-ids-requires-2
     (λ c κs. search showing)  -- seen-groups-requires
     (λ c. search showing))  -- returns-2

@@ -6,6 +6,10 @@ use Rattle.credentials.proofs.own.seen_groups.Tie as tie
 pub seen-groups-spec : {M : Type 1} → statement M
 seen-groups-spec =
     tie.close (tie.spec
-    (λ c κs. search showing)  -- places-requires
+    (λ c κs. search showing)  -- own-batch-requires
     (λ c κs. search showing)  -- from-kernel-each-requires
+    (λ c. search showing)  -- array-read-t12
+    (λ c. search showing)  -- array-read-t15
+    (λ c. search showing)  -- array-read-t18
+    (λ c κs. search showing)  -- group-list-requires
     (λ c. search showing))  -- returns

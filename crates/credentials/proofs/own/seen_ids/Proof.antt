@@ -9,6 +9,6 @@ seen-ids-spec =
     (λ c κs. search showing)  -- lifted-lines-requires
     (λ c κs. search showing)  -- lifted-base-requires
     (λ c κs. search showing)  -- seen-by-requires
-    (λ c κs. search showing)  -- seen-by-requires-2
-    (λ c κs. search showing)  -- seen-by-requires-3
+    (λ c κs. search showing)  -- known-for-requires
+    (λ c κs. search showing)  -- known-for-requires-2
     (λ c. search showing))  -- returns

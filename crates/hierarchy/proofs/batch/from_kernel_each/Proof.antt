@@ -7,7 +7,6 @@ pub from-kernel-each-spec : {M : Type 1} → statement M
 from-kernel-each-spec =
     tie.close (tie.spec
     (λ c κs. search translating)  -- without-no-id-requires
-    (λ c κs. search translating)  -- first-of-requires
     (λ c. search translating)  -- returns
     (λ c κs. search translating)  -- lifted-lines-requires
     (λ c κs. search translating)  -- lifted-base-requires
@@ -15,5 +14,4 @@ from-kernel-each-spec =
     (λ c. search translating)  -- returns-2
     (λ c κs. search translating)  -- lookup-back-each-requires
     (λ c κs. search translating)  -- without-no-id-requires-2
-    (λ c κs. search translating)  -- first-of-requires-2
     (λ c. search translating))  -- returns-3

@@ -6,12 +6,10 @@ use Rattle.hierarchy.proofs.batch.to_kernel_each.Tie as tie
 pub to-kernel-each-spec : {M : Type 1} → statement M
 to-kernel-each-spec =
     tie.close (tie.spec
-    (λ c κs. search translating)  -- first-of-requires
     (λ c. search translating)  -- returns
     (λ c κs. search translating)  -- lifted-lines-requires
     (λ c κs. search translating)  -- lifted-base-requires
     (λ c κs. search translating)  -- singly-requires
     (λ c. search translating)  -- returns-2
     (λ c κs. search translating)  -- lookup-out-each-requires
-    (λ c κs. search translating)  -- first-of-requires-2
     (λ c. search translating))  -- returns-3

@@ -7,10 +7,10 @@ use Rattle.hierarchy.proofs.batch.without_no_id.Statement.{statement}
 use Rattle.hierarchy.proofs.batch.without_no_id.Tie as tie
 
 abbrev Inv-loop : tie.InvT-loop
-Inv-loop other ids found r₀ i₀ r i = (i ≤ 16) × (length r ≡ 16) × OrElseTo other ids found r i
+Inv-loop other ids found r₀ i₀ r i = (i ≤ 20) × (length r ≡ 20) × OrElseTo other ids found r i
 
 abbrev μ-loop : tie.MeasureT-loop
-μ-loop other ids found r₀ i₀ r i = 16 - i
+μ-loop other ids found r₀ i₀ r i = 20 - i
 
 pub without-no-id-spec : {M : Type 1} → statement M
 without-no-id-spec =

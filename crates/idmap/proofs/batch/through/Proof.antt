@@ -7,10 +7,10 @@ use Rattle.idmap.proofs.batch.through.Statement.{statement}
 use Rattle.idmap.proofs.batch.through.Tie as tie
 
 abbrev Inv-loop : tie.InvT-loop
-Inv-loop l ids found r₀ i₀ r i = (i ≤ 16) × (length r ≡ 16) × Through l ids found r i
+Inv-loop l ids found r₀ i₀ r i = (i ≤ 20) × (length r ≡ 20) × Through l ids found r i
 
 abbrev μ-loop : tie.MeasureT-loop
-μ-loop l ids found r₀ i₀ r i = 16 - i
+μ-loop l ids found r₀ i₀ r i = 20 - i
 
 pub through-spec : {M : Type 1} → statement M
 through-spec =

@@ -1,0 +1,85 @@
+-- Lists of groups as batches, in the words of the code: each law's premises are what a place knows. Assumes nothing.
+use Prim.Native.Nat.{ℕ, _+_, _-_, _≤_, _<_, min}
+use mathlib.Core.Path.{_≡_, refl, sym, ap, _∙_}
+use mathlib.Core.Bool.{Bool, true, false}
+use mathlib.Core.List.{List, [], _∷_, _++_}
+use native.Mathlib.Numerals.{add-one}
+use native.Mathlib.Omega.{arith}
+use lib.ListN.{length, take, drop, getD, set, replicate, drop-of-length-le}
+use lib.Seq.{drop-cons, length-take-le, take-length}
+use borrow.Author.Needs.{needs}
+use borrow.Author.Tests.{eq-eqb, ne-eqb}
+use Rattle.prelude.proofs.Lists.{MadeTo, made-starts, made-step, made-ends}
+use Rattle.records.specs.declared.Ids.{Ids}
+use Rattle.records.specs.declared.GroupList.{GroupList}
+use Rattle.rows.proofs.Lists.{tab-all}
+use Rattle.credentials.specs.Calls.{groupList}
+use Rattle.credentials.specs.Batch.{batchOf, ownBatch, allIds}
+
+-- ---- batch_of
+module _ (list ids : List ℕ) (i : ℕ) (inv : MadeTo 20 0 list ids i) (long : length ids ≡ 20) (few : length list ≤ 16) where
+  pub batch-step : i < length list → MadeTo 20 0 list (set ids i (getD list i 0)) (i + 1)
+  batch-step h = made-step 20 0 list ids i inv long 0 (omega arith) h
+
+  pub batch-ends : length list ≤ i → i ≤ length list → ids ≡ batchOf list
+  unfolding batchOf
+  batch-ends h k =
+      let e : i ≡ length list = omega arith in
+      made-ends 20 0 list ids i inv long (omega arith) ∙ rw (e, take-length list)
+
+-- ---- own_batch
+pub own-batch-is : (l : List ℕ) (g : Ids) → length l ≡ 16
+    → getD l 0 0 ∷ getD l 1 0 ∷ getD l 2 0 ∷ getD l 3 0 ∷ getD l 4 0 ∷ getD l 5 0 ∷ getD l 6 0 ∷ getD l 7 0 ∷ getD l 8 0 ∷ getD l 9 0 ∷ getD l 10 0 ∷ getD l 11 0 ∷ getD l 12 0 ∷ getD l 13 0 ∷ getD l 14 0 ∷ getD l 15 0 ∷ g .real ∷ g .effective ∷ g .saved ∷ 0 ∷ []
+    ≡ ownBatch l g
+unfolding ownBatch
+own-batch-is l g long = ap (λ (xs : List ℕ). xs ++ (g .real ∷ g .effective ∷ g .saved ∷ 0 ∷ [])) (tab-all l 0 16 long)
+
+-- ---- group_list
+module _ (batch ids : List ℕ) (i : ℕ) (inv : MadeTo 16 0 batch ids i) (long : length ids ≡ 16) (full : length batch ≡ 20) (n end : ℕ) (few : end ≡ min n 16) where
+  pub list-step : i < end → MadeTo 16 0 batch (set ids i (getD batch i 0)) (i + 1)
+  list-step h = made-step 16 0 batch ids i inv long 0 (omega arith) (omega arith)
+
+  pub list-ends : i ≤ end → end ≤ i → _≡_ {A = GroupList} (record { count = end; ids = ids }) (groupList (take (min n 16) batch))
+  unfolding groupList
+  list-ends h k =
+      let e : i ≡ end = omega arith in
+      let many : length (take (min n 16) batch) ≡ end = length-take-le (min n 16) batch (omega arith) ∙ sym few in
+      let all : ids ≡ take end batch ++ replicate (16 - end) 0 = made-ends 16 0 batch ids i inv long (omega arith) ∙ rw e in
+      rw (many, all, few)
+
+-- ---- all_ids: what the rest from place i on says
+pub AllFrom : List ℕ → ℕ → Type 0
+AllFrom ids i = allIds ids ≡ allIds (drop i ids)
+
+module _ (ids : List ℕ) where
+  pub all-starts : AllFrom ids 0
+  unfolding AllFrom
+  all-starts = refl
+
+  module _ (i : ℕ) (inv : AllFrom ids i) (long : length ids ≡ 16) where
+    pub all-ends : 16 ≤ i → true ≡ allIds ids
+    unfolding AllFrom allIds
+    all-ends h = sym (inv ∙ rw (drop-of-length-le ids {i = i} (omega arith)))
+
+    module _ (h : i < 16) where
+      pub all-missing : getD ids i 0 ≡ 4294967295 → false ≡ allIds ids
+      unfolding AllFrom allIds
+      all-missing e = sym (inv ∙ rw (drop-cons ids i 0 (omega arith), eq-eqb (getD ids i 0) 4294967295 e))
+
+      pub all-next : (getD ids i 0 ≡ 4294967295 → ⊥) → AllFrom ids (i + 1)
+      unfolding AllFrom allIds
+      all-next e = inv ∙ rw (drop-cons ids i 0 (omega arith), ne-eqb (getD ids i 0) 4294967295 e, add-one)
+
+pub ruleset listing = (
+  made-starts,
+  batch-step,
+  batch-ends,
+  own-batch-is,
+  list-step,
+  list-ends,
+  all-starts,
+  all-ends,
+  all-missing,
+  all-next,
+  needs,
+)

@@ -1,0 +1,22 @@
+-- How lists of groups get into a batch of twenty IDs and out of it. That this gives the lists of specs/Calls.antt, which alone are to be believed, is
+-- proved. Assumes nothing.
+use Prim.Native.Nat.{ℕ, _-_}
+use mathlib.Core.Bool.{Bool, true, false, cond}
+use mathlib.Core.List.{List, [], _∷_, _++_}
+use lib.Dec.{eqb}
+use lib.ListN.{length, replicate}
+use Rattle.idmap.specs.Good.{noId}
+use Rattle.records.specs.declared.Ids.{Ids}
+
+-- a list, and 0 in the other places
+unfoldable pub batchOf : List ℕ → List ℕ
+batchOf list = list ++ replicate (20 - length list) 0
+
+-- the places of a process's supplementary groups, and then its own three group IDs
+unfoldable pub ownBatch : List ℕ → Ids → List ℕ
+ownBatch list groups = list ++ (groups .real ∷ groups .effective ∷ groups .saved ∷ 0 ∷ [])
+
+-- none of them is 'no ID'
+unfoldable pub allIds : List ℕ → Bool
+allIds [] = true
+allIds (x ∷ ids) = cond (eqb x noId) false (allIds ids)
