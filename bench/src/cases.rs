@@ -285,16 +285,21 @@ fn questions() -> Vec<Row> {
     vec![
         own_ids("getids, no groups", &common, 1, one_call),
         own_ids("getids, 4 groups", &common, ROOT, three_calls),
-        own_ids("getids, 16 groups, 8 levels of 5 lines", &State::deep(8), 9, Kernel::None),
+        own_ids(
+            "getids, 16 groups, 8 levels of 5 lines",
+            &State::with_own_ids(8, Maps::Whole),
+            9,
+            Kernel::None,
+        ),
         own_ids(
             "getids, 16 groups, 8 levels of 5 lines across",
-            &State::nested(8, Maps::Across),
+            &State::with_own_ids(8, Maps::Across),
             9,
             Kernel::None,
         ),
         own_ids(
             "getids, 16 groups, 8 levels of 5 lines, each across",
-            &State::nested(8, Maps::EachAcross),
+            &State::with_own_ids(8, Maps::EachAcross),
             9,
             Kernel::None,
         ),

@@ -133,6 +133,16 @@ impl State {
         state.make(Call::Setgroups { caller: levels + 1, groups: sixteen_groups() });
         state
     }
+
+    /// The same, and the deepest one's process has three different IDs of each kind, all in the last of five lines.
+    pub fn with_own_ids(levels: u64, maps: Maps) -> State {
+        let mut state = State::nested(levels, maps);
+        let ids = [LAST_LINE_ID, LAST_LINE_ID + 1, LAST_LINE_ID + 2];
+        for kind in [Kind::Group, Kind::User] {
+            state.make(Call::SetIds { kind, caller: levels + 1, ids });
+        }
+        state
+    }
 }
 
 /// The kernel ID of an ID through maps of five lines, at any level.

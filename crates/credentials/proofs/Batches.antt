@@ -2,14 +2,14 @@
 use Prim.Native.Nat.{ℕ, _+_, _-_, _≤_, _<_, min}
 use mathlib.Core.Path.{_≡_, refl, sym, ap, _∙_}
 use mathlib.Core.Bool.{Bool, true, false}
-use mathlib.Core.List.{List, [], _∷_, _++_}
+use mathlib.Core.List.{List, [], _∷_, _++_, append-nil}
 use native.Mathlib.Numerals.{add-one}
 use native.Mathlib.Omega.{arith}
 use lib.ListN.{length, take, drop, getD, set, replicate, drop-of-length-le}
-use lib.Seq.{drop-cons, length-take-le, take-length}
+use lib.Seq.{drop-cons, length-take-le, take-length, take-take}
 use borrow.Author.Needs.{needs}
 use borrow.Author.Tests.{eq-eqb, ne-eqb}
-use Rattle.prelude.proofs.Lists.{MadeTo, made-starts, made-step, made-ends}
+use Rattle.prelude.proofs.Lists.{MadeTo, made-starts, made-all, made-step, made-back, made-ends}
 use Rattle.records.specs.declared.Ids.{Ids}
 use Rattle.records.specs.declared.GroupList.{GroupList}
 use Rattle.rows.proofs.Lists.{tab-all}
@@ -34,18 +34,33 @@ pub own-batch-is : (l : List ℕ) (g : Ids) → length l ≡ 16
 unfolding ownBatch
 own-batch-is l g long = ap (λ (xs : List ℕ). xs ++ (g .real ∷ g .effective ∷ g .saved ∷ 0 ∷ [])) (tab-all l 0 16 long)
 
--- ---- group_list
-module _ (batch ids : List ℕ) (i : ℕ) (inv : MadeTo 16 0 batch ids i) (long : length ids ≡ 16) (full : length batch ≡ 20) (n end : ℕ) (few : end ≡ min n 16) where
-  pub list-step : i < end → MadeTo 16 0 batch (set ids i (getD batch i 0)) (i + 1)
-  list-step h = made-step 16 0 batch ids i inv long 0 (omega arith) (omega arith)
+-- ---- sixteen
+module _ (batch ids : List ℕ) (i : ℕ) (inv : MadeTo 16 0 batch ids i) (long : length ids ≡ 16) (full : length batch ≡ 20) where
+  pub sixteen-step : i < 16 → MadeTo 16 0 batch (set ids i (getD batch i 0)) (i + 1)
+  sixteen-step h = made-step 16 0 batch ids i inv long 0 h (omega arith)
 
-  pub list-ends : i ≤ end → end ≤ i → _≡_ {A = GroupList} (record { count = end; ids = ids }) (groupList (take (min n 16) batch))
+  pub sixteen-ends : 16 ≤ i → i ≤ 16 → ids ≡ take 16 batch
+  sixteen-ends h k =
+      let e : i ≡ 16 = omega arith in
+      made-ends 16 0 batch ids i inv long k ∙ rw (e, append-nil (take 16 batch))
+
+-- ---- group_list: the places from i on are empty
+pub all-made : (all : List ℕ) → length all ≡ 16 → MadeTo 16 0 all all 16
+all-made all full = made-all 16 0 all full
+
+module _ (all ids : List ℕ) (i : ℕ) (inv : MadeTo 16 0 all ids i) (long : length ids ≡ 16) (n end : ℕ) (few : end ≡ min n 16) where
+  pub list-step : end < i → i ≤ 16 → MadeTo 16 0 all (set ids (i - 1) 0) (i - 1)
+  list-step h room = made-back 16 0 all ids i inv long room (omega arith)
+
+  pub list-ends : (batch : List ℕ) → all ≡ take 16 batch → length batch ≡ 20 → end ≤ i → i ≤ end
+      → _≡_ {A = GroupList} (record { count = end; ids = ids }) (groupList (take (min n 16) batch))
   unfolding groupList
-  list-ends h k =
+  list-ends batch first full h k =
       let e : i ≡ end = omega arith in
       let many : length (take (min n 16) batch) ≡ end = length-take-le (min n 16) batch (omega arith) ∙ sym few in
-      let all : ids ≡ take end batch ++ replicate (16 - end) 0 = made-ends 16 0 batch ids i inv long (omega arith) ∙ rw e in
-      rw (many, all, few)
+      let front : take end all ≡ take end batch = ap (take end) first ∙ take-take end 16 batch (omega arith) in
+      let rest : ids ≡ take end all ++ replicate (16 - end) 0 = made-ends 16 0 all ids i inv long (omega arith) ∙ rw e in
+      rw (many, rest, front, few)
 
 -- ---- all_ids: what the rest from place i on says
 pub AllFrom : List ℕ → ℕ → Type 0
@@ -75,6 +90,9 @@ pub ruleset listing = (
   batch-step,
   batch-ends,
   own-batch-is,
+  sixteen-step,
+  sixteen-ends,
+  all-made,
   list-step,
   list-ends,
   all-starts,

@@ -57,16 +57,29 @@ fn places(count: usize) -> usize
     if count < 16 { count } else { 16 }
 }
 
-// The first `count` IDs of a batch as a list, 16 at most.
+// The first 16 IDs of a batch.
+fn sixteen(batch: Batch) -> [u32; 16]
+    ensures { λ r. ⌜ r ≡ take 16 batch ⌝ }
+{
+    let mut ids = [0u32; 16];
+    let mut i: usize = 0;
+    while i < 16 {
+        ids[i] = batch[i];
+        i += 1;
+    }
+    ids
+}
+
+// The first `count` IDs of a batch as a list, 16 at most. The places past them are emptied from the last one on.
 pub(crate) fn group_list(batch: Batch, count: usize) -> GroupList
     ensures { λ r. ⌜ r ≡ groupList (take (min count 16) batch) ⌝ }
 {
     let end = places(count);
-    let mut ids = [0u32; 16];
-    let mut i: usize = 0;
-    while i < end {
-        ids[i] = batch[i];
-        i += 1;
+    let mut ids = sixteen(batch);
+    let mut i: usize = 16;
+    while end < i {
+        i -= 1;
+        ids[i] = 0;
     }
     GroupList {
         count: end as u64,

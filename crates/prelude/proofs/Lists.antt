@@ -6,7 +6,7 @@ use native.Mathlib.Numerals.{add-one}
 use native.Mathlib.Omega.{arith}
 use lib.Dec.{leb}
 use lib.ListN.{length, take, drop, getD, set, replicate, length-take, take-append-drop, drop-of-length-le}
-use lib.Seq.{drop-cons, drop-drop, drop-set-lt, getD-take, length-take-le, take-all, take-suc, take-suc-set}
+use lib.Seq.{drop-cons, drop-drop, drop-set-lt, getD-set-same, getD-take, length-take-le, lt-length-set, take-all, take-set-le, take-suc, take-suc-set, take-take}
 use borrow.Author.Tests.{leb-true, leb-false}
 use Rattle.prelude.proofs.Tests.{by-test}
 
@@ -95,7 +95,24 @@ module _ {A : Type 0} (n : ℕ) (z : A) (made : List A) where
   unfolding MadeTo
   made-starts = let e : n - 0 ≡ n = omega arith in (refl, rw e)
 
+  -- all of them
+  pub made-all : length made ≡ n → MadeTo n z made made n
+  unfolding MadeTo
+  made-all full = let none : n - n ≡ 0 = omega arith in (refl, rw none (drop-of-length-le made {i = n} (omega arith)))
+
   module _ (r : List A) (i : ℕ) (inv : MadeTo n z made r i) (long : length r ≡ n) where
+    -- one less
+    pub made-back : i ≤ n → 0 < i → MadeTo n z made (set r (i - 1) z) (i - 1)
+    unfolding MadeTo
+    made-back room h =
+        let j : suc (i - 1) ≡ i = omega arith in
+        let k : n - (i - 1) ≡ suc (n - i) = omega arith in
+        let rest : drop (suc (i - 1)) r ≡ replicate (n - i) z = rw j (inv .1) in (
+          take-set-le (i - 1) r (i - 1) z (omega arith) ∙ sym (take-take (i - 1) i r (omega arith)) ∙ ap (take (i - 1)) (inv .0) ∙ take-take (i - 1) i made (omega arith),
+          drop-cons (set r (i - 1) z) (i - 1) z (lt-length-set r (i - 1) z (omega arith))
+              ∙ rw (getD-set-same r (i - 1) z z (omega arith), drop-set-lt (suc (i - 1)) r (i - 1) z (omega arith), rest, k),
+        )
+
     pub made-step : (d : A) → i < n → i < length made → MadeTo n z made (set r i (getD made i d)) (i + 1)
     unfolding MadeTo
     made-step d h k = (
