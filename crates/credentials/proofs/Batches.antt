@@ -1,20 +1,22 @@
 -- Lists of groups as batches, in the words of the code: each law's premises are what a place knows. Assumes nothing.
-use Prim.Native.Nat.{ℕ, _+_, _-_, _≤_, _<_, min}
+use Prim.Native.Nat.{ℕ, _+_, _-_, _≤_, _<_, _^_, min}
 use mathlib.Core.Path.{_≡_, refl, sym, ap, _∙_}
-use mathlib.Core.Bool.{Bool, true, false}
 use mathlib.Core.List.{List, [], _∷_, _++_, append-nil}
 use native.Mathlib.Numerals.{add-one}
 use native.Mathlib.Omega.{arith}
+use lib.Dec.{eqb}
 use lib.ListN.{length, take, drop, getD, set, replicate, drop-of-length-le}
 use lib.Seq.{drop-cons, length-take-le, take-length, take-take}
 use borrow.Author.Needs.{needs}
 use borrow.Author.Tests.{eq-eqb, ne-eqb}
+use Rattle.prelude.proofs.Tests.{by-test}
 use Rattle.prelude.proofs.Lists.{MadeTo, made-starts, made-all, made-step, made-back, made-ends}
+use Rattle.idmap.specs.Good.{noId}
 use Rattle.records.specs.declared.Ids.{Ids}
 use Rattle.records.specs.declared.GroupList.{GroupList}
 use Rattle.rows.proofs.Lists.{tab-all}
 use Rattle.credentials.specs.Calls.{groupList}
-use Rattle.credentials.specs.Batch.{batchOf, ownBatch, allIds}
+use Rattle.credentials.specs.Batch.{batchOf, ownBatch, missingOf, missingIn, allIds}
 
 -- ---- batch_of
 module _ (list ids : List ℕ) (i : ℕ) (inv : MadeTo 20 0 list ids i) (long : length ids ≡ 20) (few : length list ≤ 16) where
@@ -62,28 +64,51 @@ module _ (all ids : List ℕ) (i : ℕ) (inv : MadeTo 16 0 all ids i) (long : le
       let rest : ids ≡ take end all ++ replicate (16 - end) 0 = made-ends 16 0 all ids i inv long (omega arith) ∙ rw e in
       rw (many, rest, front, few)
 
--- ---- all_ids: what the rest from place i on says
-pub AllFrom : List ℕ → ℕ → Type 0
-AllFrom ids i = allIds ids ≡ allIds (drop i ids)
+-- ---- all_ids: those that are counted, and those from place i on
+pub missing-one : (id : ℕ) → id ≡ 4294967295 → 1 ≡ missingOf id
+missing-one id e = rw (eq-eqb id 4294967295 e)
+
+pub missing-none : (id : ℕ) → (id ≡ 4294967295 → ⊥) → 0 ≡ missingOf id
+missing-none id e = rw (ne-eqb id 4294967295 e)
+
+pub CountedTo : List ℕ → ℕ → ℕ → Type 0
+CountedTo ids count i = (missingIn ids ≡ count + missingIn (drop i ids)) × (count ≤ i)
+
+at-most-one : (x : ℕ) → missingOf x ≤ 1
+at-most-one x = by-test (eqb x noId) (λ t. rw t (omega arith)) (λ t. rw t (omega arith))
+
+-- none is 'no ID' where none is counted
+none-missing : (ids : List ℕ) → allIds ids ≡ eqb (missingIn ids) 0
+unfolding allIds missingIn
+none-missing [] = refl
+none-missing (x ∷ ids) =
+    by-test (eqb x noId)
+    (λ t. rw t (sym (ne-eqb (1 + missingIn ids) 0 (λ e. omega arith))))
+    (λ t. let q : 0 + missingIn ids ≡ missingIn ids = omega arith in rw (t, q) (none-missing ids))
 
 module _ (ids : List ℕ) where
-  pub all-starts : AllFrom ids 0
-  unfolding AllFrom
-  all-starts = refl
+  pub counted-starts : CountedTo ids 0 0
+  unfolding CountedTo
+  counted-starts = (omega arith, omega arith)
 
-  module _ (i : ℕ) (inv : AllFrom ids i) (long : length ids ≡ 16) where
-    pub all-ends : 16 ≤ i → true ≡ allIds ids
-    unfolding AllFrom allIds
-    all-ends h = sym (inv ∙ rw (drop-of-length-le ids {i = i} (omega arith)))
+  module _ (count i : ℕ) (inv : CountedTo ids count i) (long : length ids ≡ 16) where
+    pub counted-fits : (m : ℕ) → i < 16 → m ≡ missingOf (getD ids i 0) → count + m < 2 ^ 32
+    unfolding CountedTo
+    counted-fits m h e = omega (arith, at-most-one (getD ids i 0))
 
-    module _ (h : i < 16) where
-      pub all-missing : getD ids i 0 ≡ 4294967295 → false ≡ allIds ids
-      unfolding AllFrom allIds
-      all-missing e = sym (inv ∙ rw (drop-cons ids i 0 (omega arith), eq-eqb (getD ids i 0) 4294967295 e))
+    pub counted-step : (m : ℕ) → i < 16 → m ≡ missingOf (getD ids i 0) → CountedTo ids (count + m) (i + 1)
+    unfolding CountedTo missingIn
+    counted-step m h e = (
+      inv .0 ∙ rw (drop-cons ids i 0 (omega arith), ← e, add-one) (omega arith),
+      omega (arith, at-most-one (getD ids i 0)),
+    )
 
-      pub all-next : (getD ids i 0 ≡ 4294967295 → ⊥) → AllFrom ids (i + 1)
-      unfolding AllFrom allIds
-      all-next e = inv ∙ rw (drop-cons ids i 0 (omega arith), ne-eqb (getD ids i 0) 4294967295 e, add-one)
+    pub counted-all : 16 ≤ i → eqb count 0 ≡ allIds ids
+    unfolding CountedTo missingIn
+    counted-all h =
+        let e : missingIn ids ≡ count + 0 = inv .0 ∙ rw (drop-of-length-le ids {i = i} (omega arith)) in
+        let q : count ≡ missingIn ids = omega arith in
+        ap (λ (k : ℕ). eqb k 0) q ∙ sym (none-missing ids)
 
 pub ruleset listing = (
   made-starts,
@@ -95,9 +120,11 @@ pub ruleset listing = (
   all-made,
   list-step,
   list-ends,
-  all-starts,
-  all-ends,
-  all-missing,
-  all-next,
+  missing-one,
+  missing-none,
+  counted-starts,
+  counted-fits,
+  counted-step,
+  counted-all,
   needs,
 )

@@ -1,6 +1,6 @@
 -- How lists of groups get into a batch of twenty IDs and out of it. That this gives the lists of specs/Calls.antt, which alone are to be believed, is
 -- proved. Assumes nothing.
-use Prim.Native.Nat.{ℕ, _-_}
+use Prim.Native.Nat.{ℕ, _+_, _-_}
 use mathlib.Core.Bool.{Bool, true, false, cond}
 use mathlib.Core.List.{List, [], _∷_, _++_}
 use lib.Dec.{eqb}
@@ -20,3 +20,11 @@ ownBatch list groups = list ++ (groups .real ∷ groups .effective ∷ groups .s
 unfoldable pub allIds : List ℕ → Bool
 allIds [] = true
 allIds (x ∷ ids) = cond (eqb x noId) false (allIds ids)
+
+-- how many of them are
+abbrev pub missingOf : ℕ → ℕ
+missingOf x = cond (eqb x noId) 1 0
+
+unfoldable pub missingIn : List ℕ → ℕ
+missingIn [] = 0
+missingIn (x ∷ ids) = missingOf x + missingIn ids

@@ -3,7 +3,7 @@ ghost use mathlib.Core.Path.{_≡_};
 ghost use Prim.Native.Nat.{_≤_, min};
 ghost use lib.ListN.{length, take};
 ghost use Rattle.credentials.specs.Calls.{groupList};
-ghost use Rattle.credentials.specs.Batch.{batchOf, ownBatch, allIds};
+ghost use Rattle.credentials.specs.Batch.{batchOf, ownBatch, missingOf, allIds};
 use idmap::batch::Batch;
 use records::GroupList;
 use records::Ids;
@@ -87,16 +87,22 @@ pub(crate) fn group_list(batch: Batch, count: usize) -> GroupList
     }
 }
 
-// Whether none of them is 'no ID'.
+// 1 for 'no ID', else 0.
+fn missing(id: u32) -> u32
+    ensures { λ r. ⌜ r ≡ missingOf id ⌝ }
+{
+    if id == 4294967295 { 1 } else { 0 }
+}
+
+// Whether none of them is 'no ID'. They are counted, so that the compiler tests several at once.
 pub(crate) fn all_ids(ids: [u32; 16]) -> bool
     ensures { λ r. ⌜ r ≡ allIds ids ⌝ }
 {
+    let mut count: u32 = 0;
     let mut i: usize = 0;
     while i < 16 {
-        if ids[i] == 4294967295 {
-            return false;
-        }
+        count += missing(ids[i]);
         i += 1;
     }
-    true
+    count == 0
 }
