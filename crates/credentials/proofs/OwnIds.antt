@@ -32,29 +32,22 @@ use Rattle.credentials.specs.declared.own.Groups.{Groups}
 use Rattle.credentials.specs.Batch.{ownBatch}
 use Rattle.credentials.specs.Calls.{shownAs, seen, seenIds, noIds, groupList, seenGroups, ownIdsOf}
 
--- ---- an ID, and three
-pub shown-by : (r f : Translated) (v : ℕ) → v ≡ shownAs r → r ≡ f → v ≡ shownAs f
-shown-by r f v e q = e ∙ ap shownAs q
-
--- by the lifted map that the tables have
+-- ---- three IDs, each after the one before it, by the lifted map that the tables have
 module _ (s : State) (kind : Kind) (ls : List Line) (b n : ℕ) (lines : ls ≡ liftedAt s kind n .lines) (base : b ≡ liftedAt s kind n .base) where
   by-own : (x : ℕ) → idOr 65534 (fromKernelBy s kind (record { base = b; lines = ls }) n x) ≡ seen s kind n x
   by-own x = ap shownAs (from-own s kind ls b n x _ lines base refl)
 
-  pub seen-first : (x v : ℕ) → v ≡ shownAs (fromKernelBy s kind (record { base = b; lines = ls }) n x) → v ≡ seen s kind n x
-  seen-first x v e = e ∙ by-own x
-
-  -- three IDs, each after the one before it
-  pub seen-three : (i : Ids) (v : ℕ) (e d : Known) → v ≡ shownAs (fromKernelBy s kind (record { base = b; lines = ls }) n (i .real))
+  pub seen-three : (i : Ids) (r : Translated) (v : ℕ) (e d : Known) → r ≡ fromKernelBy s kind (record { base = b; lines = ls }) n (i .real) → v ≡ idOr 65534 r
       → e ≡ knownBy (turnedBy true s kind (record { base = b; lines = ls }) n) 65534 (record { id = i .real; found = v }) (i .effective)
       → d ≡ knownBy (turnedBy true s kind (record { base = b; lines = ls }) n) 65534 e (i .saved)
       → record { real = v; effective = e .found; saved = d .found } ≡ seenIds s kind n i
   unfolding Knows
-  seen-three i v e d p q r =
+  seen-three i r v e d p w q t =
       let f : ℕ → Translated = fromKernelBy s kind (record { base = b; lines = ls }) n in
-      let second = found-at f 65534 [] (record { id = i .real; found = v }) e (i .effective) p q in
-      let third = found-at f 65534 [] e d (i .saved) (second .1) r in
-      λ j. record { real = (p ∙ by-own (i .real)) j; effective = (second .0 ∙ by-own (i .effective)) j; saved = (third .0 ∙ by-own (i .saved)) j }
+      let one : v ≡ idOr 65534 (f (i .real)) = w ∙ ap (idOr 65534) p in
+      let second = found-at f 65534 (record { id = i .real; found = v }) e (i .effective) one q in
+      let third = found-at f 65534 e d (i .saved) (second .1) t in
+      λ j. record { real = (one ∙ by-own (i .real)) j; effective = (second .0 ∙ by-own (i .effective)) j; saved = (third .0 ∙ by-own (i .saved)) j }
 
 -- ---- all group IDs at once
 module _ (s : State) (n : ℕ) (three : Ids) (g : GroupList) (given found : List ℕ) (seen-list : GroupList) (long : length (g .ids) ≡ 16) (read : given ≡ ownBatch (g .ids) three)
@@ -105,4 +98,4 @@ module _ (s : State) (c : ℕ) (r : Found) (named : r ≡ processNamed s c) wher
   unfolding ownIdsOf
   own-found i p a g at read ea eg = rw (← named, at, ← read, ea, eg)
 
-pub ruleset showing = (shown-by, seen-three, groups-seen, own-nobody, own-found, needs)
+pub ruleset showing = (seen-three, groups-seen, own-nobody, own-found, needs)

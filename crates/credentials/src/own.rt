@@ -1,9 +1,7 @@
 // A process's own IDs, as seen in its namespace.
 ghost use mathlib.Core.Path.{_≡_};
-ghost use Rattle.idmap.specs.Line.{linesIn};
 ghost use Rattle.tables.specs.Tables.{tablesOf};
-ghost use Rattle.hierarchy.specs.Walks.{fromKernelBy};
-ghost use Rattle.credentials.specs.Calls.{shownAs, seenIds, seenGroups, ownIdsOf};
+ghost use Rattle.credentials.specs.Calls.{seenIds, seenGroups, ownIdsOf};
 use crate::batching::group_list;
 use crate::batching::own_batch;
 use hierarchy::batch::Known;
@@ -31,45 +29,24 @@ pub struct OwnIds {
     pub supplementary: GroupList,
 }
 
-// A kernel ID as a namespace sees it, by the lines and the base of its lifted map.
-fn seen_by(t: &Tables, kind: Kind, lines: &[u64], base: u64, namespace: u64, id: u32) -> u32
-    ensures { λ r. ⌜ r ≡ shownAs (fromKernelBy (tablesOf (now (t .entry))) kind (record { base = base; lines = linesIn (now (lines .entry)) }) «namespace» id) ⌝ }
+// The three user IDs. One that is the same as the one before it is not looked up again.
+fn seen_users(t: &Tables, namespace: u64, users: Ids) -> Ids
+    ensures { λ r. ⌜ r ≡ seenIds (tablesOf (now (t .entry))) Kind.User «namespace» users ⌝ }
 {
-    id_or(from_kernel_by(t, kind, lines, base, namespace, id), 65534)
-}
-
-// Three IDs. One that is the same as the one before it is not looked up again.
-fn seen_ids(t: &Tables, kind: Kind, namespace: u64, ids: Ids) -> Ids
-    ensures { λ r. ⌜ r ≡ seenIds (tablesOf (now (t .entry))) kind «namespace» ids ⌝ }
-{
+    let kind = Kind::User;
     let lines = lifted_lines(t, namespace as usize, kind);
     let base = lifted_base(t, namespace as usize, kind);
     let real = Known {
-        id: ids.real,
-        found: seen_by(t, kind, lines, base, namespace, ids.real),
+        id: users.real,
+        found: id_or(
+            from_kernel_by(t, kind, lines, base, namespace, users.real),
+            65534,
+        ),
     };
-    let effective = known_for(
-        t,
-        kind,
-        true,
-        lines,
-        base,
-        namespace,
-        ids.effective,
-        65534,
-        real,
-    );
-    let saved = known_for(
-        t,
-        kind,
-        true,
-        lines,
-        base,
-        namespace,
-        ids.saved,
-        65534,
-        effective,
-    );
+    let id = users.effective;
+    let effective = known_for(t, kind, true, lines, base, namespace, id, 65534, real);
+    let id = users.saved;
+    let saved = known_for(t, kind, true, lines, base, namespace, id, 65534, effective);
     Ids {
         real: real.found,
         effective: effective.found,
@@ -124,7 +101,7 @@ pub fn own_ids(t: &Tables, caller: u64) -> OwnIds
     let users = p.users;
     let groups = p.groups;
     let supplementary = p.supplementary;
-    let seen_users = seen_ids(t, Kind::User, p.namespace, users);
+    let seen_users = seen_users(t, p.namespace, users);
     let seen = seen_groups(t, p.namespace, groups, supplementary);
     let seen_own = seen.three;
     let seen_list = seen.list;

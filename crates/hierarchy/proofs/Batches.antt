@@ -42,6 +42,17 @@ pub known-anew : (f : ℕ → Translated) (other : ℕ) (before : Known) (x y : 
     → record { id = x; found = y } ≡ knownBy f other before x
 known-anew f other before x y r ne found e = rw (ne-eqb x (before .id) ne, e, found)
 
+-- what is found for an ID after another one
+pub found-at : (f : ℕ → Translated) (other : ℕ) (last k : Known) (x : ℕ) → Knows f other last → k ≡ knownBy f other last x → (k .found ≡ idOr other (f x)) × Knows f other k
+unfolding Knows
+found-at f other last k x inv e =
+    by-test (eqb x (last .id))
+    (λ t.
+    let q : k ≡ last = e ∙ rw t in
+    let same : x ≡ last .id = eqb-true x (last .id) t in
+    (rw (q, same) inv, rw q inv))
+    (λ t. let q : k ≡ record { id = x; found = idOr other (f x) } = e ∙ rw t in (rw q, rw q))
+
 -- ---- singly: the first i of twenty are in place
 pub SinglyTo : (ℕ → Translated) → ℕ → List ℕ → List ℕ → ℕ → Type 0
 SinglyTo f other ids r i = take i r ≡ take i (eachBy f other ids)
@@ -55,26 +66,15 @@ module _ (f : ℕ → Translated) (other : ℕ) (ids : List ℕ) where
   unfolding Knows
   knows-first r y found e = e ∙ ap (idOr other) found
 
-  -- what is known of the ID at place i
-  pub found-at : (last k : Known) (x : ℕ) → Knows f other last → k ≡ knownBy f other last x → (k .found ≡ idOr other (f x)) × Knows f other k
-  unfolding Knows
-  found-at last k x inv e =
-      by-test (eqb x (last .id))
-      (λ t.
-      let q : k ≡ last = e ∙ rw t in
-      let same : x ≡ last .id = eqb-true x (last .id) t in
-      (rw (q, same) inv, rw q inv))
-      (λ t. let q : k ≡ record { id = x; found = idOr other (f x) } = e ∙ rw t in (rw q, rw q))
-
   module _ (r : List ℕ) (i : ℕ) (last k : Known) (knows : Knows f other last) (e : k ≡ knownBy f other last (getD ids i 0)) where
     pub knows-next : Knows f other k
-    knows-next = found-at last k (getD ids i 0) knows e .1
+    knows-next = found-at f other last k (getD ids i 0) knows e .1
 
     pub singly-step : SinglyTo f other ids r i → length r ≡ 20 → length ids ≡ 20 → i < 20 → SinglyTo f other ids (set r i (k .found)) (i + 1)
     unfolding SinglyTo eachBy
     singly-step inv long same h =
         let one : ℕ → ℕ = λ x. idOr other (f x) in
-        let at : k .found ≡ getD (map one ids) i (one 0) = found-at last k (getD ids i 0) knows e .0 ∙ sym (List·getD-map one ids i 0) in
+        let at : k .found ≡ getD (map one ids) i (one 0) = found-at f other last k (getD ids i 0) knows e .0 ∙ sym (List·getD-map one ids i 0) in
         ap (λ (w : ℕ). take (i + 1) (set r i w)) at ∙ copy-step (map one ids) r i 20 inv long (length-map ids one ∙ same) (one 0) h
 
   pub singly-all : (r : List ℕ) (i : ℕ) → SinglyTo f other ids r i → length r ≡ 20 → length ids ≡ 20 → 20 ≤ i → r ≡ eachBy f other ids
