@@ -1,6 +1,5 @@
 -- The entry point: each call's promise is the step's. Assumes nothing.
 use mathlib.Core.Path.{_≡_, refl, sym, ap, _∙_}
-use mathlib.Core.Bool.{true, false}
 use mathlib.Core.List.{List}
 use Prim.Native.Nat.{ℕ}
 use borrow.Author.Needs.{needs}
@@ -8,7 +7,7 @@ use Rattle.records.specs.declared.Kind.{Kind}
 use Rattle.records.specs.declared.Ids.{Ids}
 use Rattle.tables.specs.declared.answer.Answer.{Answer}
 use Rattle.tables.specs.declared.answer.Answer.the-variants.{Refused, Done, Child, ChildIn, NewNamespace, Yes, No, Length, Id, Unmapped, Own}
-use Rattle.tables.specs.Tables.{State, tablesOf}
+use Rattle.tables.specs.Tables.{tablesOf}
 use Rattle.tables.specs.Reply.{Reply, replyOf, Outcome, isRefused, Promise}
 use Rattle.process.specs.Calls.{forkOf, cloneOf, unshareOf, setnsOf}
 use Rattle.mapping.specs.Calls.{ReadOutcome, writeMapOf, writeSetgroupsOf, readMapOf, readSetgroupsOf}

@@ -3,7 +3,7 @@
 use Prim.Native.Nat.{ℕ, zero, suc, _+_, _≤_, _<_, _%_, _^_}
 use mathlib.Core.Path.{_≡_, refl, sym, ap, _∙_, subst}
 use mathlib.Core.Bool.{Bool, true, false, cond, _&&_}
-use mathlib.Core.List.{List, [], _∷_}
+use mathlib.Core.List.{List}
 use mathlib.Core.Option.{Option, none, some}
 use native.Mathlib.Nat.{not-suc-le-zero}
 use native.Mathlib.Omega.{arith}
@@ -11,7 +11,6 @@ use lib.Dec.{eqb, leb}
 use lib.ListN.{length}
 use borrow.Author.Tests.{ne-eqb, eqb-true, eqb-false, lt-ltb}
 use Rattle.idmap.specs.declared.Line.{Line}
-use Rattle.idmap.specs.declared.Translated.{Translated}
 use Rattle.idmap.specs.declared.Translated.the-variants.{Id}
 use Rattle.idmap.specs.Lookup.{out, thenId}
 use Rattle.idmap.specs.Good.{noId, goodOf}
@@ -20,7 +19,7 @@ use Rattle.idmap.proofs.Translation.{two-answers}
 use Rattle.lifted_map.specs.Lift.{composedOf, maxPieces, Lifted, liftedOf}
 use Rattle.lifted_map.proofs.Composition.{composed-good, composed-out}
 use Rattle.records.specs.declared.Kind.{Kind}
-use Rattle.tables.specs.Tables.{fixedLine, noLift, fixedLift}
+use Rattle.tables.specs.Tables.{noLift, fixedLift}
 use Rattle.prelude.proofs.Tests.{by-test, and-left, and-right}
 use Rattle.claims.specs.Words.{sameKind, orNone, liftedBy}
 use Rattle.claims.specs.Translation.{Pairs, Out, top, through}

@@ -1,5 +1,5 @@
 -- Translation by the tables is translation by the history, level by level. Assumes nothing.
-use Prim.Native.Nat.{ℕ, zero, suc, _≤_, _<_, _%_, _^_}
+use Prim.Native.Nat.{ℕ, zero, suc, _<_, _%_, _^_}
 use mathlib.Core.Path.{_≡_, refl, sym, ap, _∙_}
 use mathlib.Core.Bool.{cond}
 use mathlib.Core.List.{List, [], _∷_}
@@ -12,15 +12,14 @@ use Rattle.idmap.specs.declared.Translated.{Translated}
 use Rattle.idmap.specs.Lookup.{out, thenId, back}
 use Rattle.idmap.specs.Good.{goodOf, boundedOf, fitsOf, allApart}
 use Rattle.idmap.proofs.Translation.{two-answers}
-use Rattle.lifted_map.specs.Lift.{Lifted}
 use Rattle.lifted_map.proofs.Composition.{out-low}
 use Rattle.records.specs.declared.Kind.{Kind}
-use Rattle.tables.specs.Tables.{State, liftedAt, fixedLine}
+use Rattle.tables.specs.Tables.{State, fixedLine}
 use Rattle.hierarchy.specs.Walks.{itself, outIn, toKernelBy, toKernel, backIn, fromKernelBy, fromKernel}
 use Rattle.prelude.proofs.Tests.{by-test}
 use Rattle.claims.specs.Events.{Event, other, forked, cloned, unshared, joined, mapped, changed, grouped}
-use Rattle.claims.specs.Words.{isNamespace, placeOf, parentOf, levelOf, mapOf, liftOf, orNone, linesOf, standsFor}
-use Rattle.claims.specs.Translation.{Out, Back, outBy, backBy}
+use Rattle.claims.specs.Words.{isNamespace, placeOf, parentOf, levelOf, mapOf, liftOf, linesOf, standsFor}
+use Rattle.claims.specs.Translation.{outBy, backBy}
 use Rattle.claims.specs.Agreement.{Agreed}
 use Rattle.claims.proofs.Sound.{deep}
 use Rattle.claims.proofs.Levels.{by-translated, out-is, is-out, back-is, is-back, out-back, back-out, back-small}

@@ -22,7 +22,7 @@ use Rattle.tables.specs.declared.find.Found.{Found}
 use Rattle.tables.specs.declared.find.Found.the-variants.{At, Nothing}
 use Rattle.tables.specs.declared.answer.Errno.the-variants.{ESRCH}
 use Rattle.tables.specs.declared.answer.Answer.the-variants.{Refused, Own}
-use Rattle.hierarchy.specs.Walks.{fromKernelBy, fromKernel}
+use Rattle.hierarchy.specs.Walks.{fromKernelBy}
 use Rattle.hierarchy.specs.declared.batch.Known.{Known}
 use Rattle.hierarchy.specs.Batch.{turnedBy, eachBy, fromKernelEach, knownBy}
 use Rattle.hierarchy.proofs.Batches.{Knows, found-at}

@@ -13,7 +13,6 @@ use Rattle.credentials.specs.declared.own.OwnIds.{OwnIds}
 use Rattle.tables.specs.declared.answer.Errno.{Errno}
 use Rattle.tables.specs.declared.answer.Answer.{Answer}
 use Rattle.tables.specs.declared.answer.Answer.the-variants.{Refused}
-use Rattle.tables.specs.Tables.{tablesOf}
 use Rattle.tables.specs.Reply.{Reply, replyOf, numberOf, Outcome, isRefused, Promise}
 use Rattle.mapping.specs.Calls.{ReadOutcome}
 use Rattle.exports.specs.Codes.{negated, codeOf, Coded, CodedRead, spaceAfter, idsRow, isOwn, CodedIds}

@@ -10,7 +10,7 @@ use borrow.Author.Tests.{lt-ltb, le-ltb}
 use Rattle.prelude.proofs.Lists.{zip-map, zip-step, zip-all}
 use Rattle.idmap.specs.declared.Line.{Line}
 use Rattle.idmap.specs.declared.Translated.{Translated}
-use Rattle.idmap.specs.declared.Translated.the-variants.{Id, Unmapped}
+use Rattle.idmap.specs.declared.Translated.the-variants.{Id}
 use Rattle.idmap.specs.Line.{lineAt, linesIn}
 use Rattle.idmap.specs.Lookup.{out, idOr, facingOf}
 use Rattle.idmap.specs.Batch.{movedOr, outEach}

@@ -1,13 +1,13 @@
 -- The numbers of a line, taken from its front: blanks at the front do not count, and the digits at the front are the first number.
 -- Assumes nothing.
 use mathlib.Core.Path.{_≡_, refl, sym, ap, _∙_}
-use mathlib.Core.Bool.{Bool, true, false, cond, _&&_, _||_, false≢true, and-false}
+use mathlib.Core.Bool.{true, false, cond, and-false}
 use mathlib.Core.List.{List, [], _∷_, _++_, append-nil}
 use mathlib.Core.Option.{Option, none, some}
-use Prim.Native.Nat.{ℕ, zero, suc, _+_, _-_, _*_, _≤_, _<_}
+use Prim.Native.Nat.{ℕ, _+_, _-_, _*_, _<_}
 use native.Mathlib.Omega.{arith}
-use lib.ListN.{length, take, drop, take-append-drop}
-use lib.Dec.{leb, eqb}
+use lib.ListN.{take, drop, take-append-drop}
+use lib.Dec.{leb}
 use borrow.Author.Tests.{ne-eqb, leb-true}
 use Rattle.idmap.specs.Good.{noId}
 use Rattle.idmap.specs.Text.{isBlank, isDigit, longer, pieces, filled, consOf, allOf, allDigits, decimal, numberOf, numbersOf}

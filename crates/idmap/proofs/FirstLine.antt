@@ -1,14 +1,13 @@
 -- The reader's scan of the line at the front of a text gives what the text's definition says of its first piece. Assumes nothing.
-use mathlib.Core.Path.{_≡_, refl, sym, ap, _∙_}
-use mathlib.Core.Bool.{Bool, true, false, cond, false≢true}
+use mathlib.Core.Path.{_≡_, refl, ap, _∙_}
+use mathlib.Core.Bool.{Bool, true, false, cond}
 use mathlib.Core.List.{List, [], _∷_, _++_}
 use mathlib.Core.Logic.{_⊎_, inl, inr, ⊎-elim}
 use mathlib.Core.Option.{Option, none, some}
 use Prim.Native.Nat.{ℕ, zero, suc, _+_, _-_, _*_, _≤_, _<_}
 use native.Mathlib.Omega.{arith}
-use native.Mathlib.Numerals.{add-one}
 use lib.Dec.{leb, ltb, eqb}
-use lib.ListN.{length, take, drop, getD, length-append, length-drop, drop-of-length-le, List·getD-append}
+use lib.ListN.{length, drop, getD, length-append, length-drop, drop-of-length-le, List·getD-append}
 use lib.Seq.{drop-append-le, drop-append-add, drop-drop, drop-length, drop-cons, getD-append-seam}
 use borrow.Author.Tests.{eqb-true, eqb-false, eq-eqb, ne-eqb, lt-ltb, le-ltb, ltb-true, ltb-false}
 use Rattle.idmap.specs.declared.Line.{Line}
@@ -17,7 +16,7 @@ use Rattle.idmap.specs.declared.text.Number.the-variants.{Value, NoNumbe
 use Rattle.idmap.specs.declared.text.LineRead.{LineRead}
 use Rattle.idmap.specs.declared.text.LineRead.the-variants.{Read, NoLine}
 use Rattle.idmap.specs.Good.{noId}
-use Rattle.idmap.specs.Text.{isNewline, isBlank, isDigit, longer, pieces, consOf, allOf, numberOf, numbersOf, threeOf, lineOf, textLines}
+use Rattle.idmap.specs.Text.{isNewline, isBlank, isDigit, pieces, consOf, allOf, numbersOf, threeOf, lineOf, textLines}
 use Rattle.idmap.specs.Scan.{run, value, skipped, ended, numberAt, fieldAt, lineEnd, thenNumber, scanLine}
 use Rattle.prelude.proofs.Tests.{by-test, cond-elim}
 use Rattle.idmap.proofs.Fields.{number-front, numbers-skip, numbers-none, numbers-other, numbers-front, numbers-more}

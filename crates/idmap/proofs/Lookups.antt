@@ -2,7 +2,7 @@
 use Prim.Native.Nat.{ℕ, _+_, _-_, _≤_, _<_, _%_, _^_}
 use mathlib.Core.Path.{_≡_, refl, sym, ap, _∙_}
 use mathlib.Core.Bool.{Bool, true, false, cond}
-use mathlib.Core.List.{List, [], _∷_, map, map-id}
+use mathlib.Core.List.{List, _∷_, map, map-id}
 use native.Mathlib.Omega.{arith}
 use lib.ListN.{length, drop}
 use lib.Dec.{ltb}
@@ -12,7 +12,7 @@ use Rattle.idmap.specs.declared.Line.{Line}
 use Rattle.idmap.specs.declared.Translated.{Translated}
 use Rattle.idmap.specs.declared.Translated.the-variants.{Id, Unmapped}
 use Rattle.idmap.specs.Line.{less, inRange, lineAt, linesIn}
-use Rattle.idmap.specs.Lookup.{movedBy, out, flip, facingOf, back, reachOf}
+use Rattle.idmap.specs.Lookup.{movedBy, out, flip, facingOf, reachOf}
 use Rattle.idmap.proofs.Words.{lines-step, lines-end}
 
 -- in_range

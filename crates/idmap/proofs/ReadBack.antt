@@ -1,7 +1,7 @@
 -- What is written as text is read back as the same lines. Assumes nothing.
 use Prim.Native.Nat.{ℕ, zero, suc, _+_, _-_, _*_, _/_, _%_, _^_, _≤_, _<_}
 use mathlib.Core.Path.{_≡_, refl, sym, _∙_}
-use mathlib.Core.Bool.{true, false, cond}
+use mathlib.Core.Bool.{true, cond}
 use mathlib.Core.List.{List, [], _∷_, _++_, append-nil}
 use mathlib.Core.Option.{Option, none, some}
 use native.Mathlib.Omega.{arith}
@@ -11,7 +11,7 @@ use lib.Seq.{append-snoc}
 use borrow.Author.Tests.{le-leb, ne-eqb, eqb-true}
 use Rattle.idmap.specs.declared.Line.{Line}
 use Rattle.idmap.specs.Good.{maxLines, noId, goodOf}
-use Rattle.idmap.specs.Text.{isNewline, isDigit, pieces, consOf, allOf, numbersOf, threeOf, lineOf, textLines, checked, mapLines}
+use Rattle.idmap.specs.Text.{isDigit, pieces, consOf, allOf, numbersOf, threeOf, lineOf, textLines, checked, mapLines}
 use Rattle.idmap.specs.Scan.{run, value}
 use Rattle.idmap.specs.Show.{lastDigit, columnOf, shown, numberText, lineColumns, lineText, linesText}
 use Rattle.prelude.proofs.Tests.{by-test}

@@ -1,5 +1,5 @@
 -- The reader's loop over the lines of a text, turn by turn, in the words of the code. Assumes nothing.
-use mathlib.Core.Path.{_≡_, refl, sym, ap, ap₂, _∙_}
+use mathlib.Core.Path.{_≡_, refl, sym, ap, _∙_}
 use mathlib.Core.Bool.{Bool, true, false, cond, _&&_, and-false}
 use mathlib.Core.List.{List, [], _∷_, _++_, append-assoc, append-nil}
 use mathlib.Core.Option.{Option, none, some}
@@ -7,8 +7,8 @@ use Prim.Native.Nat.{ℕ, suc, _+_, _-_, _≤_, _<_, _^_}
 use native.Mathlib.Numerals.{add-one}
 use native.Mathlib.Omega.{arith}
 use lib.Dec.{leb}
-use lib.ListN.{length, take, drop, set, replicate, length-append, length-take, length-drop, take-append-drop, drop-of-length-le}
-use lib.Seq.{length-take-le, drop-cons, drop-drop, take-all, take-suc-set, drop-set-lt}
+use lib.ListN.{length, take, drop, set, replicate, length-append, length-drop, take-append-drop, drop-of-length-le}
+use lib.Seq.{length-take-le, drop-drop, take-all, take-suc-set, drop-set-lt}
 use mir.Val.{Fits}
 use mir.Syntax.{w64}
 use borrow.Author.Needs.{needs}
@@ -22,7 +22,7 @@ use Rattle.idmap.specs.Line.{noLine}
 use Rattle.idmap.specs.Good.{maxLines, goodOf}
 use Rattle.idmap.specs.Text.{consOf, allOf, pieces, textLines, checked, mapLines, padded, mapText}
 use Rattle.idmap.specs.Scan.{scanLine}
-use Rattle.idmap.proofs.FirstLine.{afterLine, Takes, text-step, line-takes}
+use Rattle.idmap.proofs.FirstLine.{afterLine, text-step, line-takes}
 
 -- bad
 pub bad-is : _≡_ {A = MapText} (record { parsed = Bad; lines = replicate maxLines noLine }) (mapText none)

@@ -1,16 +1,15 @@
 -- The laws of translation through one map: back undoes out, out undoes back, and both are one to one. Each is stated once, over the
 -- lines; the other direction is the same law of the lines with their sides exchanged. Assumes nothing.
 use mathlib.Core.Path.{_≡_, refl, sym, ap, _∙_}
-use mathlib.Core.Bool.{Bool, true, false}
+use mathlib.Core.Bool.{true, false}
 use mathlib.Core.List.{List, [], _∷_, map}
-use Prim.Native.Nat.{ℕ, _+_, _-_, _≤_, _<_, _^_}
+use Prim.Native.Nat.{ℕ, _+_, _-_, _<_, _^_}
 use native.Mathlib.Omega.{arith}
 use Rattle.idmap.specs.declared.Line.{Line}
-use Rattle.idmap.specs.declared.Translated.{Translated}
 use Rattle.idmap.specs.declared.Translated.the-variants.{Id, Unmapped}
 use Rattle.idmap.specs.Line.{inRange}
 use Rattle.idmap.specs.Lookup.{movedBy, out, flip, back}
-use Rattle.idmap.specs.Good.{noId, allApart, goodOf, Within, Bounded, Apart}
+use Rattle.idmap.specs.Good.{noId, allApart, goodOf, Within, Bounded}
 use Rattle.prelude.proofs.Tests.{by-test}
 use Rattle.idmap.proofs.Interval.{in-interval, interval-in}
 use Rattle.idmap.proofs.Goodness.{flip-good, good-first, good-others, good-apart, apart-first-of}

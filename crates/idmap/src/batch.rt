@@ -9,7 +9,7 @@ use crate::Line;
 use crate::lookup::facing;
 use crate::lookup::line_at;
 
-// Twenty IDs: all group IDs of a process, which are 19, and one more, since a processor takes four in a step.
+// Twenty IDs, of which a processor takes four in a step.
 pub type Batch = [u32; 20];
 
 // What `l` gives for an `id` that it holds, else `other`.

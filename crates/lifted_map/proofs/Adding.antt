@@ -1,7 +1,7 @@
 -- The pieces of a map, added to a row one after the other, in the words of the code. Assumes nothing.
-use Prim.Native.Nat.{ℕ, suc, _+_, _-_, _*_, _≤_, _<_, _^_, min, max}
+use Prim.Native.Nat.{ℕ, _+_, _-_, _≤_, _<_, min, max}
 use mathlib.Core.Path.{_≡_, refl, sym, ap, _∙_}
-use mathlib.Core.Bool.{true, false, cond}
+use mathlib.Core.Bool.{cond}
 use mathlib.Core.List.{List, [], _∷_, _++_, map, append-assoc, append-nil}
 use mathlib.Core.Option.{Option, none, some}
 use native.Mathlib.Numerals.{add-one}
@@ -10,13 +10,13 @@ use lib.Dec.{eqb, leb, ltb}
 use lib.ListN.{length, getD, set, take, drop, length-append}
 use lib.Seq.{take-suc, take-suc-set, take-all, length-take-le}
 use borrow.Author.Needs.{needs}
-use borrow.Author.Tests.{eq-eqb, ne-eqb, le-leb, lt-leb, lt-ltb, le-ltb, ltb-true, ltb-false}
+use borrow.Author.Tests.{eq-eqb, ne-eqb, le-leb, lt-leb, ltb-true, ltb-false}
 use Rattle.prelude.proofs.Tests.{by-test}
 use Rattle.prelude.proofs.Lists.{left-step, left-none}
 use Rattle.idmap.specs.declared.Line.{Line}
 use Rattle.idmap.specs.Line.{noLine, more, lineAt, linesIn}
 use Rattle.idmap.proofs.Words.{lines-step, lines-end}
-use Rattle.lifted_map.specs.Lift.{startOf, endOf, commonOf, piecesOf, withIds, composedOf, Lifted, liftedOf, placesIn, liftedIn}
+use Rattle.lifted_map.specs.Lift.{commonOf, piecesOf, withIds, composedOf, Lifted, liftedOf, placesIn, liftedIn}
 use Rattle.lifted_map.specs.Adding.{piecesIn, added, addedAll}
 use Rattle.lifted_map.proofs.Places.{places, put-place, put-head}
 

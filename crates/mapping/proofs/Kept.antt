@@ -1,6 +1,6 @@
 -- A read that is refused leaves every byte of the buffer as it was. Assumes nothing.
 use Prim.Native.Nat.{ℕ}
-use mathlib.Core.Path.{_≡_, refl, sym, _∙_}
+use mathlib.Core.Path.{_≡_, refl}
 use mathlib.Core.Bool.{true, false, false≢true}
 use mathlib.Core.List.{List}
 use Rattle.prelude.specs.Parts.{fitsAt, putAt}
@@ -8,7 +8,7 @@ use Rattle.prelude.proofs.Tests.{by-test}
 use Rattle.records.specs.declared.Kind.{Kind}
 use Rattle.tables.specs.declared.find.Found.{Found}
 use Rattle.tables.specs.declared.find.Found.the-variants.{At, Nothing}
-use Rattle.tables.specs.Tables.{State, processAt}
+use Rattle.tables.specs.Tables.{State}
 use Rattle.tables.specs.Find.{processNamed}
 use Rattle.tables.specs.Reply.{refused, isRefused, onFound}
 use Rattle.mapping.specs.Calls.{ReadOutcome, readText, readMapOf, readSetgroupsOf}

@@ -3,7 +3,7 @@ ghost use mathlib.Core.Path.{_≡_};
 ghost use mathlib.Core.Bool.{true, false};
 ghost use Rattle.tables.specs.Tables.{tablesOf};
 ghost use Rattle.tables.specs.Reply.{Promise};
-ghost use Rattle.mapping.specs.Calls.{sameBytes, isWord, settingOf, settingIn, withDeny, writeSetgroupsTo, writeSetgroupsOf, allowText, denyText};
+ghost use Rattle.mapping.specs.Calls.{sameBytes, settingOf, settingIn, withDeny, writeSetgroupsTo, writeSetgroupsOf};
 use hierarchy::capable::capable;
 use records::Namespace;
 use records::Process;

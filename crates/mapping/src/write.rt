@@ -2,7 +2,7 @@
 ghost use mathlib.Core.Path.{_≡_};
 ghost use lib.ListN.{take};
 ghost use Rattle.idmap.specs.Line.{linesIn};
-ghost use Rattle.tables.specs.Tables.{tablesOf, namespaceAt};
+ghost use Rattle.tables.specs.Tables.{tablesOf};
 ghost use Rattle.tables.specs.Reply.{Promise};
 ghost use Rattle.mapping.specs.Calls.{isNear, isId, mayByKind, singleLine, mayMap, allCovered, withMap, writeLinesTo, writeMapTo, writeMapOf};
 use hierarchy::capable::capable;

@@ -1,20 +1,18 @@
 -- The written lines of a map, read where their words stand. Assumes nothing.
-use Prim.Native.Nat.{ℕ, zero, suc, _+_, _-_, _*_, _≤_, _<_}
+use Prim.Native.Nat.{ℕ, zero, suc, _+_, _*_, _≤_, _<_}
 use mathlib.Core.Path.{_≡_, refl, sym, ap, ap₂, _∙_}
-use mathlib.Core.List.{List, [], _∷_}
+use mathlib.Core.List.{List, _∷_}
 use native.Mathlib.Nat.{suc-mul}
-use native.Mathlib.Numerals.{add-one, add-two, add-three}
+use native.Mathlib.Numerals.{add-three}
 use native.Mathlib.Omega.{arith}
-use lib.Dec.{eqb}
 use lib.ListN.{length, getD, take, drop}
-use lib.Seq.{drop-cons, drop-drop, take-take, take-nil}
+use lib.Seq.{drop-cons}
 use borrow.Author.Needs.{needs}
 use borrow.Author.Tests.{eq-eqb, ne-eqb}
 use Rattle.prelude.specs.Parts.{part}
-use Rattle.prelude.proofs.Parts.{length-part}
 use Rattle.idmap.specs.declared.Line.{Line}
 use Rattle.idmap.specs.Line.{lineOfWords, lineAt, linesIn}
-use Rattle.rows.specs.Rows.{rows, tab}
+use Rattle.rows.specs.Rows.{tab}
 use Rattle.records.specs.Records.{mapOf, mapFrom, linesOf}
 use Rattle.records.specs.declared.IdMap.{IdMap}
 use Rattle.records.proofs.Records.{map-whole, map-other}

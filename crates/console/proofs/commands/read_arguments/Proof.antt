@@ -1,7 +1,5 @@
 -- `console::commands::read_arguments` meets its contract. Assumes nothing.
-use mathlib.Core.Path.{_≡_}
 use Prim.Native.Nat.{_-_}
-use lib.ListN.{length}
 use Rattle.prelude.proofs.Parts.{stores}
 use Rattle.console.proofs.commands.read_arguments.Statement.{statement}
 use Rattle.console.proofs.commands.read_arguments.Tie as tie

@@ -1,5 +1,4 @@
 -- `records::namespaces::map_words` meets its contract. Assumes nothing.
-use Prim.Native.Nat.{ℕ}
 use mathlib.Core.Path.{_≡_}
 use lib.ListN.{length, getD}
 use Rattle.idmap.specs.Line.{noLine}
