@@ -12,14 +12,14 @@ use crate::state::{self, Maps, State, FIVE_BELOW, FIVE_LINES, ONE_LINE};
 use crate::table::{Kernel, Row};
 
 /// Goals in nanoseconds: of a call, of a read or write of a map, and of a translation through at most eight levels.
-const CALL: f64 = 200.0;
+pub const CALL: f64 = 200.0;
 const MAP: f64 = 1000.0;
 const TRANSLATION: f64 = 100.0;
 
 /// Calls in a batch, where a call can be repeated in the state that it leaves.
 const REPEATED: usize = 500;
 /// Calls in a batch, where each has a process or a namespace of its own.
-const ONCE: usize = 32;
+pub const ONCE: usize = 32;
 
 /// The root of the first namespace of the common state, and that namespace.
 const ROOT: u64 = 2;
@@ -29,7 +29,7 @@ const FULL: u64 = 0x1f_ffff_ffff;
 
 /// Times one call on both implementations. `calls` are those of a batch, and `call` makes the one of a number through the
 /// bindings and answers whether it is done.
-fn row(
+pub fn row(
     name: &str,
     goal: f64,
     state: &State,
@@ -58,7 +58,7 @@ fn row(
     }
 }
 
-fn repeated(call: Call) -> Vec<Call> {
+pub fn repeated(call: Call) -> Vec<Call> {
     vec![call; REPEATED]
 }
 
@@ -135,7 +135,7 @@ fn with_unmapped(mut state: State, caller: u64) -> (State, Vec<u64>) {
     (state, members)
 }
 
-fn write_map(name: &str, state: State, caller: u64, text: &str, kernel: Kernel) -> Row {
+pub fn write_map(name: &str, state: State, caller: u64, text: &str, kernel: Kernel) -> Row {
     let (state, members) = with_unmapped(state, caller);
     let calls = for_each(&members, |process| Call::WriteMap {
         kind: reference::Kind::User,
@@ -172,7 +172,7 @@ fn writes() -> Vec<Row> {
     ]
 }
 
-fn read_map(name: &str, state: &State, caller: u64, process: u64, kernel: Kernel) -> Row {
+pub fn read_map(name: &str, state: &State, caller: u64, process: u64, kernel: Kernel) -> Row {
     let buffer = vec![0; 165];
     let call = Call::ReadMap { kind: reference::Kind::User, caller, process, buffer };
     row(name, MAP, state, kernel, repeated(call), |t, _| {
@@ -222,7 +222,7 @@ fn set_ids(
     row(name, CALL, state, kernel, calls, |t, i| t.set_ids(kinds.0, caller, ids(i)).is_ok())
 }
 
-fn set_groups(name: &str, state: &State, caller: u64, groups: &[u32], kernel: Kernel) -> Row {
+pub fn set_groups(name: &str, state: &State, caller: u64, groups: &[u32], kernel: Kernel) -> Row {
     let call = Call::Setgroups { caller, groups: groups.to_vec() };
     row(name, CALL, state, kernel, repeated(call), |t, _| t.setgroups(caller, groups).is_ok())
 }
@@ -265,7 +265,7 @@ fn credentials() -> Vec<Row> {
     ]
 }
 
-fn own_ids(name: &str, state: &State, caller: u64, kernel: Kernel) -> Row {
+pub fn own_ids(name: &str, state: &State, caller: u64, kernel: Kernel) -> Row {
     row(name, CALL, state, kernel, repeated(Call::GetIds { caller }), |t, _| {
         black_box(t.getids(caller)).is_ok()
     })
@@ -287,19 +287,19 @@ fn questions() -> Vec<Row> {
         own_ids("getids, 4 groups", &common, ROOT, three_calls),
         own_ids(
             "getids, 16 groups, 8 levels of 5 lines",
-            &State::with_own_ids(8, Maps::Whole),
+            &State::nested(8, Maps::Whole).with_own_ids(9),
             9,
             Kernel::None,
         ),
         own_ids(
             "getids, 16 groups, 8 levels of 5 lines across",
-            &State::with_own_ids(8, Maps::Across),
+            &State::nested(8, Maps::Across).with_own_ids(9),
             9,
             Kernel::None,
         ),
         own_ids(
             "getids, 16 groups, 8 levels of 5 lines, each across",
-            &State::with_own_ids(8, Maps::EachAcross),
+            &State::nested(8, Maps::EachAcross).with_own_ids(9),
             9,
             Kernel::None,
         ),

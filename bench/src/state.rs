@@ -134,20 +134,24 @@ impl State {
         state
     }
 
-    /// The same, and the deepest one's process has three different IDs of each kind, all in the last of five lines.
-    pub fn with_own_ids(levels: u64, maps: Maps) -> State {
-        let mut state = State::nested(levels, maps);
-        let ids = [LAST_LINE_ID, LAST_LINE_ID + 1, LAST_LINE_ID + 2];
+    /// The same state with three different IDs of each kind for a process, all in the last of five lines.
+    pub fn with_own_ids(mut self, caller: u64) -> State {
+        let ids = own_ids_of_last_line();
         for kind in [Kind::Group, Kind::User] {
-            state.make(Call::SetIds { kind, caller: levels + 1, ids });
+            self.make(Call::SetIds { kind, caller, ids });
         }
-        state
+        self
     }
 }
 
 /// The kernel ID of an ID through maps of five lines, at any level.
 pub fn kernel_id(inside: u32) -> u32 {
     100_000 + inside / 1000 * 2000 + inside % 1000
+}
+
+/// Three different IDs of the last of five lines.
+pub fn own_ids_of_last_line() -> [u32; 3] {
+    [LAST_LINE_ID, LAST_LINE_ID + 1, LAST_LINE_ID + 2]
 }
 
 /// Sixteen groups of the last of five lines.
