@@ -35,7 +35,7 @@ use Rattle.credentials.specs.Calls.{shownAs, seen, seenIds, noIds, group
 -- ---- three IDs, each after the one before it, by the lifted map that the tables have
 module _ (s : State) (kind : Kind) (ls : List Line) (b n : ℕ) (lines : ls ≡ liftedAt s kind n .lines) (base : b ≡ liftedAt s kind n .base) where
   by-own : (x : ℕ) → idOr 65534 (fromKernelBy s kind (record { base = b; lines = ls }) n x) ≡ seen s kind n x
-  by-own x = ap shownAs (from-own s kind ls b n x _ lines base refl)
+  by-own x = ap shownAs (from-own s kind ls b n lines base x _ refl)
 
   pub seen-three : (i : Ids) (r : Translated) (v : ℕ) (e d : Known) → r ≡ fromKernelBy s kind (record { base = b; lines = ls }) n (i .real) → v ≡ idOr 65534 r
       → e ≡ knownBy (turnedBy true s kind (record { base = b; lines = ls }) n) 65534 (record { id = i .real; found = v }) (i .effective)

@@ -12,7 +12,7 @@ use Rattle.records.specs.declared.Ids.{Ids}
 unfoldable pub batchOf : List ℕ → List ℕ
 batchOf list = list ++ replicate (20 - length list) 0
 
--- the places of a process's supplementary groups, and then its own three group IDs
+-- the places of a process's supplementary groups, then its own three group IDs, and 0 in the last place
 unfoldable pub ownBatch : List ℕ → Ids → List ℕ
 ownBatch list groups = list ++ (groups .real ∷ groups .effective ∷ groups .saved ∷ 0 ∷ [])
 

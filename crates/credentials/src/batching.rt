@@ -22,7 +22,7 @@ pub(crate) fn batch_of(list: &[u32]) -> Batch
     ids
 }
 
-// The 16 places of a process's supplementary groups and then its own three group IDs.
+// The 16 places of a process's supplementary groups, then its own three group IDs, and 0 in the last place.
 pub(crate) fn own_batch(list: [u32; 16], groups: Ids) -> Batch
     ensures { λ r. ⌜ r ≡ ownBatch list groups ⌝ }
 {

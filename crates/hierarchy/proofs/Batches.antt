@@ -1,13 +1,13 @@
 -- Translation of twenty IDs at once, in the words of the code: each law's premises are what a place knows. Assumes nothing.
 use Prim.Native.Nat.{ℕ, zero, suc, _+_, _≤_, _<_}
 use mathlib.Core.Path.{_≡_, refl, sym, ap, _∙_}
-use mathlib.Core.Bool.{Bool, true, false, cond}
+use mathlib.Core.Bool.{Bool, true, false}
 use mathlib.Core.List.{List, map, map-id, zipWith}
 use lib.Dec.{eqb}
 use lib.ListN.{length, take, getD, set, length-map, List·getD-map}
 use borrow.Author.Needs.{needs}
 use borrow.Author.Tests.{eq-eqb, ne-eqb, eqb-true}
-use Rattle.prelude.proofs.Tests.{by-test}
+use Rattle.prelude.proofs.Tests.{by-test, cond-elim}
 use Rattle.prelude.proofs.Lists.{copy-step, copy-all, zip-map, zip-step, zip-all}
 use Rattle.idmap.specs.declared.Line.{Line}
 use Rattle.idmap.specs.declared.Translated.{Translated}
@@ -21,7 +21,7 @@ use Rattle.tables.specs.Tables.{State, liftedAt}
 use Rattle.hierarchy.specs.declared.batch.Known.{Known}
 use Rattle.hierarchy.specs.Walks.{itself, outIn, toKernelBy, toKernel, fromKernelBy, fromKernel}
 use Rattle.hierarchy.specs.Batch.{turnedBy, orElse, eachBy, toKernelEach, fromKernelEach, knownBy}
-use Rattle.hierarchy.proofs.Translations.{to-first, from-first, to-kernel-root, from-kernel-root}
+use Rattle.hierarchy.proofs.Translations.{own, to-first, from-first, to-kernel-root, from-kernel-root}
 
 -- ---- turn
 pub turned-back : (b : Bool) (s : State) (kind : Kind) (m : Lifted) (n x : ℕ) (r : Translated) → b ≡ true → r ≡ fromKernelBy s kind m n x → r ≡ turnedBy b s kind m n x
@@ -138,58 +138,54 @@ module _ (s : State) (kind : Kind) (n : ℕ) (ids r : List ℕ) where
       e ∙ joined ∙ each-same (λ x. orElse other x x) (λ x. idOr other (fromKernel s kind n x)) ids one
 
   module _ (below : n ≡ 0 → ⊥) (ls : List Line) (b : ℕ) (lines : ls ≡ liftedAt s kind n .lines) (base : b ≡ liftedAt s kind n .base) where
-    own-map : _≡_ {A = Lifted} (record { base = b; lines = ls }) (liftedAt s kind n)
-    own-map i = record { base = base i; lines = lines i }
-
     pub to-each-singly : r ≡ eachBy (turnedBy false s kind (record { base = b; lines = ls }) n) noId ids → r ≡ toKernelEach s kind n ids
     unfolding toKernel
-    to-each-singly e = e ∙ ap (λ (m : Lifted). eachBy (toKernelBy s kind m n) noId ids) own-map
+    to-each-singly e = e ∙ ap (λ (m : Lifted). eachBy (toKernelBy s kind m n) noId ids) (own s kind ls b n lines base)
 
     pub from-each-singly : (other : ℕ) → r ≡ eachBy (turnedBy true s kind (record { base = b; lines = ls }) n) other ids → r ≡ fromKernelEach s kind n other ids
     unfolding fromKernel
-    from-each-singly other e = e ∙ ap (λ (m : Lifted). eachBy (fromKernelBy s kind m n) other ids) own-map
+    from-each-singly other e = e ∙ ap (λ (m : Lifted). eachBy (fromKernelBy s kind m n) other ids) (own s kind ls b n lines base)
 
     pub to-each-once : b ≤ 0 → r ≡ outEach noId ls ids → r ≡ toKernelEach s kind n ids
     unfolding eachBy outEach toKernel
     to-each-once h e =
         let one : (x : ℕ) → idOr noId (out ls x) ≡ idOr noId (toKernelBy s kind (liftedAt s kind n) n x) = λ x.
-        then-itself-or (out ls x) ∙ ap (idOr noId) (sym (to-first s kind ls b n x Unmapped below h)) ∙ ap (λ (l : Lifted). idOr noId (toKernelBy s kind l n x)) own-map in
+        then-itself-or (out ls x) ∙ ap (idOr noId) (sym (to-first s kind ls b n x Unmapped below h)) ∙ ap (λ (l : Lifted). idOr noId (toKernelBy s kind l n x)) (own s kind ls b n lines base) in
         e ∙ each-same (λ x. idOr noId (out ls x)) (λ x. idOr noId (toKernelBy s kind (liftedAt s kind n) n x)) ids one
 
     pub from-each-once : (other : ℕ) (found : List ℕ) → b ≤ 0 → found ≡ backEach other ls ids → r ≡ zipWith (orElse other) ids found → r ≡ fromKernelEach s kind n other ids
     unfolding eachBy outEach fromKernel
     from-each-once other found h m e =
         let one : (x : ℕ) → orElse other x (idOr other (back ls x)) ≡ idOr other (fromKernelBy s kind (liftedAt s kind n) n x) = λ x.
-        itself-then-else other x (back ls) ∙ ap (idOr other) (sym (from-first s kind ls b n x below h)) ∙ ap (λ (l : Lifted). idOr other (fromKernelBy s kind l n x)) own-map in
+        itself-then-else other x (back ls) ∙ ap (idOr other) (sym (from-first s kind ls b n x below h)) ∙ ap (λ (l : Lifted). idOr other (fromKernelBy s kind l n x)) (own s kind ls b n lines base) in
         e
         ∙ ap (zipWith (orElse other) ids) m
         ∙ zip-map (orElse other) (λ x. idOr other (back ls x)) ids
         ∙ each-same (λ x. orElse other x (idOr other (back ls x))) (λ x. idOr other (fromKernelBy s kind (liftedAt s kind n) n x)) ids one
 
 -- ---- a kernel ID is never 'no ID', so that 'no ID' says that there is none
-known-itself : (x : ℕ) → itself x ≡ itself (idOr noId (itself x))
+abbrev Known-id : Translated → Type 0
+Known-id r = r ≡ itself (idOr noId r)
+
+known-itself : (x : ℕ) → Known-id (itself x)
 known-itself x = ap (λ (y : ℕ). itself y) (sym (itself-or x))
 
-known-then : (r : Translated) (f : ℕ → Translated) → ((y : ℕ) → f y ≡ itself (idOr noId (f y))) → thenId r f ≡ itself (idOr noId (thenId r f))
+known-then : (r : Translated) (f : ℕ → Translated) → ((y : ℕ) → Known-id (f y)) → Known-id (thenId r f)
 known-then (Id y) f e = e y
 known-then Unmapped f e = refl
 
-known-cond : (t : Bool) (a b : Translated) → a ≡ itself (idOr noId a) → b ≡ itself (idOr noId b) → cond t a b ≡ itself (idOr noId (cond t a b))
-known-cond true a b p q = p
-known-cond false a b p q = q
-
 module _ (s : State) (kind : Kind) where
-  known-out : (k n x : ℕ) → outIn s kind k n x ≡ itself (idOr noId (outIn s kind k n x))
+  known-out : (k n x : ℕ) → Known-id (outIn s kind k n x)
   unfolding outIn
-  known-out zero n x = known-cond (eqb n 0) (itself x) Unmapped (known-itself x) refl
+  known-out zero n x = cond-elim Known-id (eqb n 0) (known-itself x) refl
   known-out (suc k) n x =
-      known-cond (eqb n 0) (itself x) (thenId (out (liftedAt s kind n .lines) x) (λ y. outIn s kind k (liftedAt s kind n .base) y)) (known-itself x)
+      cond-elim Known-id (eqb n 0) (known-itself x)
       (known-then (out (liftedAt s kind n .lines) x) (λ y. outIn s kind k (liftedAt s kind n .base) y) (λ y. known-out k (liftedAt s kind n .base) y))
 
   pub known-kernel : (n x : ℕ) → toKernel s kind n x ≡ itself (idOr noId (toKernel s kind n x))
   unfolding toKernel toKernelBy
   known-kernel n x =
-      known-cond (eqb n 0) (itself x) (thenId (out (liftedAt s kind n .lines) x) (λ y. outIn s kind 31 (liftedAt s kind n .base) y)) (known-itself x)
+      cond-elim Known-id (eqb n 0) (known-itself x)
       (known-then (out (liftedAt s kind n .lines) x) (λ y. outIn s kind 31 (liftedAt s kind n .base) y) (λ y. known-out 31 (liftedAt s kind n .base) y))
 
 pub ruleset translating = (

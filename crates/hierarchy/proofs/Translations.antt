@@ -137,17 +137,17 @@ pub then-on : (ls : List Line) (f g r : Translated) (z : ℕ) → f ≡ g → f 
 then-on ls f g r z q e found = found ∙ sym (rw (sym q ∙ e))
 
 -- ---- by the lifted map that the tables have
-module _ (s : State) (kind : Kind) (ls : List Line) (b n x : ℕ) (r : Translated) (lines : ls ≡ liftedAt s kind n .lines) (base : b ≡ liftedAt s kind n .base) where
-  own : _≡_ {A = Lifted} (record { base = b; lines = ls }) (liftedAt s kind n)
+module _ (s : State) (kind : Kind) (ls : List Line) (b n : ℕ) (lines : ls ≡ liftedAt s kind n .lines) (base : b ≡ liftedAt s kind n .base) where
+  pub own : _≡_ {A = Lifted} (record { base = b; lines = ls }) (liftedAt s kind n)
   own i = record { base = base i; lines = lines i }
 
-  pub to-own : r ≡ toKernelBy s kind (record { base = b; lines = ls }) n x → r ≡ toKernel s kind n x
+  pub to-own : (x : ℕ) (r : Translated) → r ≡ toKernelBy s kind (record { base = b; lines = ls }) n x → r ≡ toKernel s kind n x
   unfolding toKernel
-  to-own e = e ∙ ap (λ (m : Lifted). toKernelBy s kind m n x) own
+  to-own x r e = e ∙ ap (λ (m : Lifted). toKernelBy s kind m n x) own
 
-  pub from-own : r ≡ fromKernelBy s kind (record { base = b; lines = ls }) n x → r ≡ fromKernel s kind n x
+  pub from-own : (x : ℕ) (r : Translated) → r ≡ fromKernelBy s kind (record { base = b; lines = ls }) n x → r ≡ fromKernel s kind n x
   unfolding fromKernel
-  from-own e = e ∙ ap (λ (m : Lifted). fromKernelBy s kind m n x) own
+  from-own x r e = e ∙ ap (λ (m : Lifted). fromKernelBy s kind m n x) own
 
 -- ---- namespace 0 translates to itself and back, whatever its maps say
 module _ (s : State) (kind : Kind) where
