@@ -9,6 +9,7 @@ use Rattle.tables.specs.declared.answer.Answer.{Answer}
 use Rattle.tables.specs.declared.answer.Answer.the-variants.{Refused, Done, Child, ChildIn, NewNamespace, Yes, No, Length, Id, Unmapped, Own}
 use Rattle.tables.specs.Tables.{tablesOf}
 use Rattle.tables.specs.Reply.{Reply, replyOf, Outcome, isRefused, Promise}
+use Rattle.hierarchy.specs.Walks.{Translation}
 use Rattle.process.specs.Calls.{forkOf, cloneOf, unshareOf, setnsOf}
 use Rattle.mapping.specs.Calls.{ReadOutcome, writeMapOf, writeSetgroupsOf, readMapOf, readSetgroupsOf}
 use Rattle.credentials.specs.declared.own.OwnIds.{OwnIds}
@@ -61,60 +62,60 @@ module _ (r : OwnIds) (a : Answer) (e : r ≡ plainOf a) (l : List ℕ) where
       }
 
 -- ---- each call
-module _ (c : Call) (l text list b : List ℕ) (r : OwnIds) where
-  pub fork-step : (a : Answer) (l′ : List ℕ) (p : ℕ) → c ≡ Fork p → Promise a l l′ (forkOf (tablesOf l) p) → r ≡ plainOf a → CallPromise (callReply r) l l′ b (answerBy (tablesOf l) c text list b)
+module _ (by : Translation) (c : Call) (l text list b : List ℕ) (r : OwnIds) where
+  pub fork-step : (a : Answer) (l′ : List ℕ) (p : ℕ) → c ≡ Fork p → Promise a l l′ (forkOf (tablesOf l) p) → r ≡ plainOf a → CallPromise (callReply r) l l′ b (answerBy by (tablesOf l) c text list b)
   unfolding answerBy
-  fork-step a l′ p e h q = stores r a q l l′ b (forkOf (tablesOf l) p) (answerBy (tablesOf l) c text list b) h (rw e)
+  fork-step a l′ p e h q = stores r a q l l′ b (forkOf (tablesOf l) p) (answerBy by (tablesOf l) c text list b) h (rw e)
 
-  pub clone-step : (a : Answer) (l′ : List ℕ) (p : ℕ) → c ≡ Clone p → Promise a l l′ (cloneOf (tablesOf l) p) → r ≡ plainOf a → CallPromise (callReply r) l l′ b (answerBy (tablesOf l) c text list b)
+  pub clone-step : (a : Answer) (l′ : List ℕ) (p : ℕ) → c ≡ Clone p → Promise a l l′ (cloneOf by (tablesOf l) p) → r ≡ plainOf a → CallPromise (callReply r) l l′ b (answerBy by (tablesOf l) c text list b)
   unfolding answerBy
-  clone-step a l′ p e h q = stores r a q l l′ b (cloneOf (tablesOf l) p) (answerBy (tablesOf l) c text list b) h (rw e)
+  clone-step a l′ p e h q = stores r a q l l′ b (cloneOf by (tablesOf l) p) (answerBy by (tablesOf l) c text list b) h (rw e)
 
-  pub unshare-step : (a : Answer) (l′ : List ℕ) (p : ℕ) → c ≡ Unshare p → Promise a l l′ (unshareOf (tablesOf l) p) → r ≡ plainOf a → CallPromise (callReply r) l l′ b (answerBy (tablesOf l) c text list b)
+  pub unshare-step : (a : Answer) (l′ : List ℕ) (p : ℕ) → c ≡ Unshare p → Promise a l l′ (unshareOf by (tablesOf l) p) → r ≡ plainOf a → CallPromise (callReply r) l l′ b (answerBy by (tablesOf l) c text list b)
   unfolding answerBy
-  unshare-step a l′ p e h q = stores r a q l l′ b (unshareOf (tablesOf l) p) (answerBy (tablesOf l) c text list b) h (rw e)
+  unshare-step a l′ p e h q = stores r a q l l′ b (unshareOf by (tablesOf l) p) (answerBy by (tablesOf l) c text list b) h (rw e)
 
-  pub setns-step : (a : Answer) (l′ : List ℕ) (p n : ℕ) → c ≡ Setns p n → Promise a l l′ (setnsOf (tablesOf l) p n) → r ≡ plainOf a → CallPromise (callReply r) l l′ b (answerBy (tablesOf l) c text list b)
+  pub setns-step : (a : Answer) (l′ : List ℕ) (p n : ℕ) → c ≡ Setns p n → Promise a l l′ (setnsOf (tablesOf l) p n) → r ≡ plainOf a → CallPromise (callReply r) l l′ b (answerBy by (tablesOf l) c text list b)
   unfolding answerBy
-  setns-step a l′ p n e h q = stores r a q l l′ b (setnsOf (tablesOf l) p n) (answerBy (tablesOf l) c text list b) h (rw e)
+  setns-step a l′ p n e h q = stores r a q l l′ b (setnsOf (tablesOf l) p n) (answerBy by (tablesOf l) c text list b) h (rw e)
 
-  pub write-map-step : (a : Answer) (l′ : List ℕ) (k : Kind) (p n : ℕ) → c ≡ WriteMap k p n → Promise a l l′ (writeMapOf (tablesOf l) k p n text) → r ≡ plainOf a → CallPromise (callReply r) l l′ b (answerBy (tablesOf l) c text list b)
+  pub write-map-step : (a : Answer) (l′ : List ℕ) (k : Kind) (p n : ℕ) → c ≡ WriteMap k p n → Promise a l l′ (writeMapOf by (tablesOf l) k p n text) → r ≡ plainOf a → CallPromise (callReply r) l l′ b (answerBy by (tablesOf l) c text list b)
   unfolding answerBy
-  write-map-step a l′ k p n e h q = stores r a q l l′ b (writeMapOf (tablesOf l) k p n text) (answerBy (tablesOf l) c text list b) h (rw e)
+  write-map-step a l′ k p n e h q = stores r a q l l′ b (writeMapOf by (tablesOf l) k p n text) (answerBy by (tablesOf l) c text list b) h (rw e)
 
-  pub write-setgroups-step : (a : Answer) (l′ : List ℕ) (p n : ℕ) → c ≡ WriteSetgroups p n → Promise a l l′ (writeSetgroupsOf (tablesOf l) p n text) → r ≡ plainOf a → CallPromise (callReply r) l l′ b (answerBy (tablesOf l) c text list b)
+  pub write-setgroups-step : (a : Answer) (l′ : List ℕ) (p n : ℕ) → c ≡ WriteSetgroups p n → Promise a l l′ (writeSetgroupsOf (tablesOf l) p n text) → r ≡ plainOf a → CallPromise (callReply r) l l′ b (answerBy by (tablesOf l) c text list b)
   unfolding answerBy
-  write-setgroups-step a l′ p n e h q = stores r a q l l′ b (writeSetgroupsOf (tablesOf l) p n text) (answerBy (tablesOf l) c text list b) h (rw e)
+  write-setgroups-step a l′ p n e h q = stores r a q l l′ b (writeSetgroupsOf (tablesOf l) p n text) (answerBy by (tablesOf l) c text list b) h (rw e)
 
-  pub set-ids-step : (a : Answer) (l′ : List ℕ) (k : Kind) (p : ℕ) (i : Ids) → c ≡ SetIds k p i → Promise a l l′ (setIdsOf (tablesOf l) k p (i .real) (i .effective) (i .saved)) → r ≡ plainOf a → CallPromise (callReply r) l l′ b (answerBy (tablesOf l) c text list b)
+  pub set-ids-step : (a : Answer) (l′ : List ℕ) (k : Kind) (p : ℕ) (i : Ids) → c ≡ SetIds k p i → Promise a l l′ (setIdsOf by (tablesOf l) k p (i .real) (i .effective) (i .saved)) → r ≡ plainOf a → CallPromise (callReply r) l l′ b (answerBy by (tablesOf l) c text list b)
   unfolding answerBy
-  set-ids-step a l′ k p i e h q = stores r a q l l′ b (setIdsOf (tablesOf l) k p (i .real) (i .effective) (i .saved)) (answerBy (tablesOf l) c text list b) h (rw e)
+  set-ids-step a l′ k p i e h q = stores r a q l l′ b (setIdsOf by (tablesOf l) k p (i .real) (i .effective) (i .saved)) (answerBy by (tablesOf l) c text list b) h (rw e)
 
-  pub set-groups-step : (a : Answer) (l′ : List ℕ) (p : ℕ) → c ≡ SetGroups p → Promise a l l′ (setGroupsOf (tablesOf l) p list) → r ≡ plainOf a → CallPromise (callReply r) l l′ b (answerBy (tablesOf l) c text list b)
+  pub set-groups-step : (a : Answer) (l′ : List ℕ) (p : ℕ) → c ≡ SetGroups p → Promise a l l′ (setGroupsOf by (tablesOf l) p list) → r ≡ plainOf a → CallPromise (callReply r) l l′ b (answerBy by (tablesOf l) c text list b)
   unfolding answerBy
-  set-groups-step a l′ p e h q = stores r a q l l′ b (setGroupsOf (tablesOf l) p list) (answerBy (tablesOf l) c text list b) h (rw e)
+  set-groups-step a l′ p e h q = stores r a q l l′ b (setGroupsOf by (tablesOf l) p list) (answerBy by (tablesOf l) c text list b) h (rw e)
 
-  pub drop-step : (a : Answer) (l′ : List ℕ) (p x y : ℕ) → c ≡ Drop p x y → Promise a l l′ (dropOf (tablesOf l) p x y) → r ≡ plainOf a → CallPromise (callReply r) l l′ b (answerBy (tablesOf l) c text list b)
+  pub drop-step : (a : Answer) (l′ : List ℕ) (p x y : ℕ) → c ≡ Drop p x y → Promise a l l′ (dropOf (tablesOf l) p x y) → r ≡ plainOf a → CallPromise (callReply r) l l′ b (answerBy by (tablesOf l) c text list b)
   unfolding answerBy
-  drop-step a l′ p x y e h q = stores r a q l l′ b (dropOf (tablesOf l) p x y) (answerBy (tablesOf l) c text list b) h (rw e)
+  drop-step a l′ p x y e h q = stores r a q l l′ b (dropOf (tablesOf l) p x y) (answerBy by (tablesOf l) c text list b) h (rw e)
 
-  pub read-map-step : (a : Answer) (b′ : List ℕ) (k : Kind) (p n : ℕ) → c ≡ ReadMap k p n → _≡_ {A = ReadOutcome} (record { reply = replyOf a; buffer = b′ }) (readMapOf (tablesOf l) k p n b) → r ≡ plainOf a → CallPromise (callReply r) l l b′ (answerBy (tablesOf l) c text list b)
+  pub read-map-step : (a : Answer) (b′ : List ℕ) (k : Kind) (p n : ℕ) → c ≡ ReadMap k p n → _≡_ {A = ReadOutcome} (record { reply = replyOf a; buffer = b′ }) (readMapOf by (tablesOf l) k p n b) → r ≡ plainOf a → CallPromise (callReply r) l l b′ (answerBy by (tablesOf l) c text list b)
   unfolding answerBy
-  read-map-step a b′ k p n e h q = reads r a q l b′ (readMapOf (tablesOf l) k p n b) (answerBy (tablesOf l) c text list b) h (rw e)
+  read-map-step a b′ k p n e h q = reads r a q l b′ (readMapOf by (tablesOf l) k p n b) (answerBy by (tablesOf l) c text list b) h (rw e)
 
-  pub read-setgroups-step : (a : Answer) (b′ : List ℕ) (p n : ℕ) → c ≡ ReadSetgroups p n → _≡_ {A = ReadOutcome} (record { reply = replyOf a; buffer = b′ }) (readSetgroupsOf (tablesOf l) p n b) → r ≡ plainOf a → CallPromise (callReply r) l l b′ (answerBy (tablesOf l) c text list b)
+  pub read-setgroups-step : (a : Answer) (b′ : List ℕ) (p n : ℕ) → c ≡ ReadSetgroups p n → _≡_ {A = ReadOutcome} (record { reply = replyOf a; buffer = b′ }) (readSetgroupsOf (tablesOf l) p n b) → r ≡ plainOf a → CallPromise (callReply r) l l b′ (answerBy by (tablesOf l) c text list b)
   unfolding answerBy
-  read-setgroups-step a b′ p n e h q = reads r a q l b′ (readSetgroupsOf (tablesOf l) p n b) (answerBy (tablesOf l) c text list b) h (rw e)
+  read-setgroups-step a b′ p n e h q = reads r a q l b′ (readSetgroupsOf (tablesOf l) p n b) (answerBy by (tablesOf l) c text list b) h (rw e)
 
-  pub capable-step : (a : Answer) (p n number : ℕ) → c ≡ Capable p n number → replyOf a ≡ capableReply (tablesOf l) p n number → r ≡ plainOf a → CallPromise (callReply r) l l b (answerBy (tablesOf l) c text list b)
+  pub capable-step : (a : Answer) (p n number : ℕ) → c ≡ Capable p n number → replyOf a ≡ capableReply (tablesOf l) p n number → r ≡ plainOf a → CallPromise (callReply r) l l b (answerBy by (tablesOf l) c text list b)
   unfolding answerBy
-  capable-step a p n number e q w = asks r a w l b (capableReply (tablesOf l) p n number) (answerBy (tablesOf l) c text list b) q (rw e)
+  capable-step a p n number e q w = asks r a w l b (capableReply (tablesOf l) p n number) (answerBy by (tablesOf l) c text list b) q (rw e)
 
-  pub translate-step : (a : Answer) (k : Kind) (w : Way) (p n x : ℕ) → c ≡ Translate k w p n x → replyOf a ≡ translateReply (tablesOf l) k w p n x → r ≡ plainOf a → CallPromise (callReply r) l l b (answerBy (tablesOf l) c text list b)
+  pub translate-step : (a : Answer) (k : Kind) (w : Way) (p n x : ℕ) → c ≡ Translate k w p n x → replyOf a ≡ translateReply by (tablesOf l) k w p n x → r ≡ plainOf a → CallPromise (callReply r) l l b (answerBy by (tablesOf l) c text list b)
   unfolding answerBy
-  translate-step a k w p n x e q z = asks r a z l b (translateReply (tablesOf l) k w p n x) (answerBy (tablesOf l) c text list b) q (rw e)
+  translate-step a k w p n x e q z = asks r a z l b (translateReply by (tablesOf l) k w p n x) (answerBy by (tablesOf l) c text list b) q (rw e)
 
-  pub own-ids-step : (p : ℕ) → c ≡ OwnIdsOf p → r ≡ ownIdsOf (tablesOf l) p → CallPromise (callReply r) l l b (answerBy (tablesOf l) c text list b)
+  pub own-ids-step : (p : ℕ) → c ≡ OwnIdsOf p → r ≡ ownIdsOf by (tablesOf l) p → CallPromise (callReply r) l l b (answerBy by (tablesOf l) c text list b)
   unfolding answerBy
   own-ids-step p e q = record { outcome = rw (e, q); kept = λ t. refl }
 

@@ -10,6 +10,7 @@ use Rattle.tables.specs.declared.answer.Answer.{Answer}
 use Rattle.tables.specs.declared.answer.Answer.the-variants.{Refused, Done, Child, ChildIn, NewNamespace, Yes, No, Length, Id, Unmapped, Own}
 use Rattle.tables.specs.Tables.{State, tablesOf}
 use Rattle.tables.specs.Reply.{Reply, ids, replyOf, Outcome, isRefused}
+use Rattle.hierarchy.specs.Walks.{Translation}
 use Rattle.process.specs.Calls.{forkOf, cloneOf, unshareOf, setnsOf}
 use Rattle.mapping.specs.Calls.{ReadOutcome, writeMapOf, writeSetgroupsOf, readMapOf, readSetgroupsOf}
 use Rattle.credentials.specs.declared.own.OwnIds.{OwnIds}
@@ -65,24 +66,24 @@ asked s r buffer = record { reply = r; tables = s; buffer = buffer }
 abbrev pub readBy : State → ReadOutcome → Step
 readBy s o = record { reply = o .reply; tables = s; buffer = o .buffer }
 
-unfoldable pub answerBy : State → Call → List ℕ → List ℕ → List ℕ → Step
-answerBy s (Fork c) text list buffer = stored (forkOf s c) buffer
-answerBy s (Clone c) text list buffer = stored (cloneOf s c) buffer
-answerBy s (Unshare c) text list buffer = stored (unshareOf s c) buffer
-answerBy s (Setns c n) text list buffer = stored (setnsOf s c n) buffer
-answerBy s (WriteMap k c p) text list buffer = stored (writeMapOf s k c p text) buffer
-answerBy s (WriteSetgroups c p) text list buffer = stored (writeSetgroupsOf s c p text) buffer
-answerBy s (ReadMap k c p) text list buffer = readBy s (readMapOf s k c p buffer)
-answerBy s (ReadSetgroups c p) text list buffer = readBy s (readSetgroupsOf s c p buffer)
-answerBy s (SetIds k c i) text list buffer = stored (setIdsOf s k c (i .real) (i .effective) (i .saved)) buffer
-answerBy s (SetGroups c) text list buffer = stored (setGroupsOf s c list) buffer
-answerBy s (Capable c n number) text list buffer = asked s (capableReply s c n number) buffer
-answerBy s (Drop c p e) text list buffer = stored (dropOf s c p e) buffer
-answerBy s (OwnIdsOf c) text list buffer = asked s (callReply (ownIdsOf s c)) buffer
-answerBy s (Translate k w c n x) text list buffer = asked s (translateReply s k w c n x) buffer
+unfoldable pub answerBy : Translation → State → Call → List ℕ → List ℕ → List ℕ → Step
+answerBy by s (Fork c) text list buffer = stored (forkOf s c) buffer
+answerBy by s (Clone c) text list buffer = stored (cloneOf by s c) buffer
+answerBy by s (Unshare c) text list buffer = stored (unshareOf by s c) buffer
+answerBy by s (Setns c n) text list buffer = stored (setnsOf s c n) buffer
+answerBy by s (WriteMap k c p) text list buffer = stored (writeMapOf by s k c p text) buffer
+answerBy by s (WriteSetgroups c p) text list buffer = stored (writeSetgroupsOf s c p text) buffer
+answerBy by s (ReadMap k c p) text list buffer = readBy s (readMapOf by s k c p buffer)
+answerBy by s (ReadSetgroups c p) text list buffer = readBy s (readSetgroupsOf s c p buffer)
+answerBy by s (SetIds k c i) text list buffer = stored (setIdsOf by s k c (i .real) (i .effective) (i .saved)) buffer
+answerBy by s (SetGroups c) text list buffer = stored (setGroupsOf by s c list) buffer
+answerBy by s (Capable c n number) text list buffer = asked s (capableReply s c n number) buffer
+answerBy by s (Drop c p e) text list buffer = stored (dropOf s c p e) buffer
+answerBy by s (OwnIdsOf c) text list buffer = asked s (callReply (ownIdsOf by s c)) buffer
+answerBy by s (Translate k w c n x) text list buffer = asked s (translateReply by s k w c n x) buffer
 
-abbrev pub answerOf : State → Request → Step
-answerOf s r = answerBy s (r .call) (r .text) (r .list) (r .buffer)
+abbrev pub answerOf : Translation → State → Request → Step
+answerOf by s r = answerBy by s (r .call) (r .text) (r .list) (r .buffer)
 
 -- what the entry point promises: its answer, the tables and the buffer are the step's, and a refusal leaves every word of the lent array as it was
 pub record CallPromise (r : Reply) (entry exit after : List ℕ) (step : Step) : Type 0 where

@@ -24,14 +24,15 @@ use Rattle.tables.specs.Find.{processNamed}
 use Rattle.prelude.proofs.Tests.{by-test}
 use Rattle.claims.specs.Events.{Event}
 use Rattle.claims.specs.Words.{Held, isProcess, placeOf, orNone, heldOf, sameKind}
-use Rattle.claims.specs.Agreement.{heldIn, writtenIn, Agrees, Agreed}
+use Rattle.claims.specs.Agreement.{heldIn, writtenIn}
+use Rattle.claims.proofs.Matching.{Matches, Matched}
 use Rattle.claims.proofs.Stores.{cond-ap, read-process, read-namespace, read-lifted, named}
 
 -- where a test picks between what is equal, it does not matter
 pub picked-same : {A : Type 0} (f : ℕ → A) (i q : ℕ) (x : A) → x ≡ f q → cond (eqb i q) x (f i) ≡ f i
 picked-same f i q x e = by-test (eqb i q) (λ t. rw t (e ∙ ap f (sym (eqb-true i q t)))) (λ t. rw t)
 
-module _ (s : State) (isP isN : ℕ → Bool) (place up level : ℕ → ℕ) (maps : Kind → ℕ → Option (List Line)) (lifted : Kind → ℕ → Lifted) (carries : Kind → ℕ → Held) (a : Agrees s isP isN place up level maps lifted carries) where
+module _ (s : State) (isP isN : ℕ → Bool) (place up level : ℕ → ℕ) (maps : Kind → ℕ → Option (List Line)) (lifted : Kind → ℕ → Lifted) (carries : Kind → ℕ → Held) (a : Matches s isP isN place up level maps lifted carries) where
   -- process p is stored at place q
   module _ (q : ℕ) (p : Process) (h : q < length (s .processes)) where
     after-process : {A : Type 0} (f : Process → A) (g : ℕ → A) (i : ℕ) → f (processAt s i) ≡ g (suc i) → f (processAt (putProcess s q p) i) ≡ cond (eqb i q) (f p) (g (suc i))
@@ -41,7 +42,7 @@ module _ (s : State) (isP isN : ℕ → Bool) (place up level : ℕ → ℕ) (ma
         → ((i : ℕ) → cond (eqb i q) (p .live) (isP (suc i)) ≡ isP′ (suc i))
         → ((i : ℕ) → cond (eqb i q) (p .namespace) (place (suc i)) ≡ place′ (suc i))
         → ((k : Kind) (i : ℕ) → cond (eqb i q) (heldIn k p) (carries k (suc i)) ≡ carries′ k (suc i))
-        → Agrees (putProcess s q p) isP′ isN place′ up level maps lifted carries′
+        → Matches (putProcess s q p) isP′ isN place′ up level maps lifted carries′
     unfolding namespaceAt liftedAt
     stores-process isP′ place′ carries′ e f g = record {
       process-places = simp length-set (a .process-places);
@@ -58,7 +59,7 @@ module _ (s : State) (isP isN : ℕ → Bool) (place up level : ℕ → ℕ) (ma
     }
 
     -- one that is as before in what a history tells
-    pub keeps-process : p .live ≡ processAt s q .live → p .namespace ≡ processAt s q .namespace → ((k : Kind) → heldIn k p ≡ heldIn k (processAt s q)) → Agrees (putProcess s q p) isP isN place up level maps lifted carries
+    pub keeps-process : p .live ≡ processAt s q .live → p .namespace ≡ processAt s q .namespace → ((k : Kind) → heldIn k p ≡ heldIn k (processAt s q)) → Matches (putProcess s q p) isP isN place up level maps lifted carries
     keeps-process e f g =
         stores-process isP place carries
         (λ i. picked-same (λ (j : ℕ). isP (suc j)) i q (p .live) (e ∙ a .process-live q))
@@ -75,7 +76,7 @@ module _ (s : State) (isP isN : ℕ → Bool) (place up level : ℕ → ℕ) (ma
         → ((i : ℕ) → cond (eqb i q) (n .parent) (up i) ≡ up′ i)
         → ((i : ℕ) → cond (eqb i q) (n .level) (level i) ≡ level′ i)
         → ((k : Kind) (i : ℕ) → cond (eqb i q) (writtenIn (mapIn k n)) (maps k i) ≡ maps′ k i)
-        → Agrees (putNamespace s q n) isP isN′ place up′ level′ maps′ lifted carries
+        → Matches (putNamespace s q n) isP isN′ place up′ level′ maps′ lifted carries
     unfolding processAt liftedAt
     stores-namespace isN′ up′ level′ maps′ e f g m = record {
       process-places = a .process-places;
@@ -107,7 +108,7 @@ module _ (s : State) (isP isN : ℕ → Bool) (place up level : ℕ → ℕ) (ma
         by-kinds Group User = refl
         by-kinds Group Group = length-set (s .liftedGroups) q m
 
-    pub stores-lifted : Agrees (putLiftedMap s j q m) isP isN place up level maps lifted′ carries
+    pub stores-lifted : Matches (putLiftedMap s j q m) isP isN place up level maps lifted′ carries
     unfolding processAt namespaceAt
     stores-lifted = record {
       process-places = a .process-places;
@@ -132,7 +133,7 @@ lines-of m = by-state (m .state) (m .lines)
     by-state (Written n) ls = refl
 
 -- ---- the caller of a call
-module _ (s : State) (h : List Event) (a : Agreed s h) (c i : ℕ) (e : processNamed s c ≡ At i) where
+module _ (s : State) (h : List Event) (a : Matched s h) (c i : ℕ) (e : processNamed s c ≡ At i) where
   pub caller-is : c ≡ suc i
   caller-is = named s c i e .0
 

@@ -14,17 +14,18 @@ use Rattle.hierarchy.specs.Walks.{heightOf, ownedBy, holdsIn, capableIn}
 use Rattle.credentials.specs.declared.translate.Way.the-variants.{Out, Back}
 use Rattle.calls.specs.Calls.{Request}
 use Rattle.prelude.proofs.Tests.{by-test, and-left, and-right, and-i}
+use Rattle.claims.specs.Translation.{byLevels}
 use Rattle.claims.specs.Events.{Event}
 use Rattle.claims.specs.Words.{isNamespace, levelOf}
 use Rattle.claims.specs.History.{run, history, events, AllFit}
-use Rattle.claims.specs.Agreement.{Agreed}
 use Rattle.claims.specs.Bounds.{HoldsCapability, member, inherited, owner, Bounds}
+use Rattle.claims.proofs.Matching.{Matched}
 use Rattle.claims.proofs.Allowed.{SoundAt, sound}
 use Rattle.claims.proofs.Stores.{process-in-range, namespace-in-range}
-use Rattle.claims.proofs.Translating.{lifts}
+use Rattle.claims.proofs.Translating.{levels-history}
 use Rattle.claims.proofs.Theorem.{reached, by-history}
 
-module _ (s : State) (h : List Event) (a : Agreed s h) (d : SoundAt h) where
+module _ (s : State) (h : List Event) (a : Matched s h) (d : SoundAt h) where
   -- the tables' own levels and parents
   level-of-parent : (n : ℕ) → namespaceAt s n .live ≡ true → (n ≡ 0 → ⊥) → namespaceAt s n .level ≡ suc (namespaceAt s (namespaceAt s n .parent) .level)
   level-of-parent n t f =
@@ -124,8 +125,8 @@ bounds rs f =
     let a = r .agree in
     record {
       walk = λ i n c t u. capable-rules s h a d (processAt s i) c n u;
-      out = λ k n x y small. by-history s h a d (lifts h (r .valid)) k Out n x small y;
-      back = λ k n y x small. by-history s h a d (lifts h (r .valid)) k Back n y small x;
+      out = λ k n x y small. by-history (byLevels s) s h a d (levels-history s h a d) k Out n x small y;
+      back = λ k n y x small. by-history (byLevels s) s h a d (levels-history s h a d) k Back n y small x;
       process-in-range = λ i t. rw (a .process-places) at (process-in-range s i t);
       namespace-in-range = λ n t. rw (a .namespace-places) at (namespace-in-range s n t);
       place-live = λ i t.

@@ -21,7 +21,7 @@ use Rattle.tables.specs.declared.find.Found.the-variants.{At, Nothing}
 use Rattle.tables.specs.Tables.{State, processAt, namespaceAt, putProcess, putNamespace}
 use Rattle.tables.specs.Find.{processNamed, namespaceNamed, freeProcessPlace, freeNamespacePlace}
 use Rattle.tables.specs.Reply.{done, child, childIn, newNamespace, Outcome, refuse, onFound}
-use Rattle.hierarchy.specs.Walks.{capableIn}
+use Rattle.hierarchy.specs.Walks.{Translation, capableIn}
 use Rattle.process.specs.Calls.{sysAdmin, forkOf, knowsItself, entered, makesNamespace, withChild, cloneOf, unshareOf, setnsOf}
 use Rattle.mapping.specs.Calls.{isNear, mayMap, allCovered, mappedTables, thenLines, writeLinesTo, writeMapTo, writeMapOf, withDeny, settingIn, thenSetting, writeSetgroupsTo, writeSetgroupsOf}
 use Rattle.credentials.specs.Calls.{chosen, thenThree, withIds, mayTake, setIdsOf, groupList, withList, thenList, kernelGroups, setGroupsOf, withSets, dropOf}
@@ -86,7 +86,7 @@ unfolding Has
 is-87 = inr (inr (inr (inr (inr (inr (inl refl))))))
 
 -- ---- the calls. P is what is to hold of an outcome, and no says it of every refusal
-module _ (s : State) (P : Outcome → Type 0) (no : (e : ℕ) → Has e refusalNumbers → P (refuse s e)) where
+module _ (by : Translation) (s : State) (P : Outcome → Type 0) (no : (e : ℕ) → Has e refusalNumbers → P (refuse s e)) where
   pub fork-case : (c : ℕ)
       → ((i q : ℕ) → processNamed s c ≡ At i → freeProcessPlace s ≡ At q → P (record { reply = child (q + 1); tables = putProcess s q (processAt s i) }))
       → P (forkOf s c)
@@ -96,23 +96,23 @@ module _ (s : State) (P : Outcome → Type 0) (no : (e : ℕ) → Has e refusalN
   abbrev Room : ℕ → ℕ → ℕ → Type 0
   Room c p n = (processNamed s c ≡ At p) × (freeNamespacePlace s ≡ At n) × (leb 32 (namespaceAt s (processAt s p .namespace) .level) ≡ false)
 
-  makes-case : (c : ℕ) (next : ℕ → ℕ → Outcome) → ((p n : ℕ) → Room c p n → P (next p n)) → P (makesNamespace s c next)
+  makes-case : (c : ℕ) (next : ℕ → ℕ → Outcome) → ((p n : ℕ) → Room c p n → P (next p n)) → P (makesNamespace by s c next)
   makes-case c next f =
       found-case P (processNamed s c) (no 3 is-3) (λ p e.
       test-case P (leb 32 (namespaceAt s (processAt s p .namespace) .level)) (λ r. no 87 is-87) (λ r.
-      test-case P (knowsItself s (processAt s p))
+      test-case P (knowsItself by (processAt s p))
       (λ t. found-case P (freeNamespacePlace s) (no 28 is-28) (λ n g. f p n (e, g, r)))
       (λ t. no 1 is-1)))
 
   pub clone-case : (c : ℕ)
       → ((p n q : ℕ) → Room c p n → freeProcessPlace s ≡ At q → P (record { reply = childIn (q + 1) n; tables = putProcess (withChild s p n) q (entered (processAt s p) n) }))
-      → P (cloneOf s c)
+      → P (cloneOf by s c)
   unfolding cloneOf
   clone-case c f = makes-case c _ (λ p n r. found-case P (freeProcessPlace s) (no 11 is-11) (λ q g. f p n q r g))
 
   pub unshare-case : (c : ℕ)
       → ((p n : ℕ) → Room c p n → P (record { reply = newNamespace n; tables = putProcess (withChild s p n) p (entered (processAt s p) n) }))
-      → P (unshareOf s c)
+      → P (unshareOf by s c)
   unfolding unshareOf
   unshare-case c f = makes-case c _ f
 
@@ -131,7 +131,7 @@ module _ (s : State) (P : Outcome → Type 0) (no : (e : ℕ) → Has e refusalN
       → ((p : ℕ) (ls : List Line) → processNamed s name ≡ At p → isWritten (mapIn k (namespaceAt s (processAt s p .namespace)) .state) ≡ false → mapLines text ≡ some ls
       → allCovered (linesOf (mapIn k (namespaceAt s (namespaceAt s (processAt s p .namespace) .parent)))) ls ≡ true
       → P (record { reply = done; tables = mappedTables s k (processAt s p .namespace) ls }))
-      → P (writeMapOf s k c name text)
+      → P (writeMapOf by s k c name text)
   unfolding writeMapOf writeMapTo writeLinesTo
   write-map-case k c name text f =
       found-case P (processNamed s c) (no 3 is-3) (λ w e.
@@ -145,7 +145,7 @@ module _ (s : State) (P : Outcome → Type 0) (no : (e : ℕ) → Has e refusalN
       test-case P (capableIn s (processAt s w) n (setIdOf k))
       (λ t.
       lines-case P (mapLines text) (no 22 is-22) (λ ls m.
-      test-case P (mayMap s k (processAt s w) n ls)
+      test-case P (mayMap by s k (processAt s w) n ls)
       (λ t.
       test-case P (allCovered (linesOf (mapIn k (namespaceAt s (namespaceAt s n .parent)))) ls) (λ u. f p ls g v m u) (λ u. no 1 is-1))
       (λ t. no 1 is-1)))
@@ -170,11 +170,11 @@ module _ (s : State) (P : Outcome → Type 0) (no : (e : ℕ) → Has e refusalN
 
   pub set-ids-case : (k : Kind) (c : ℕ) (new : Ids)
       → ((i x y z : ℕ) → processNamed s c ≡ At i
-      → chosen s k (processAt s i .namespace) (new .real) (idsIn k (processAt s i) .real) ≡ Id x
-      → chosen s k (processAt s i .namespace) (new .effective) (idsIn k (processAt s i) .effective) ≡ Id y
-      → chosen s k (processAt s i .namespace) (new .saved) (idsIn k (processAt s i) .saved) ≡ Id z
-      → P (record { reply = done; tables = putProcess s i (withIds s k (processAt s i) (record { real = x; effective = y; saved = z })) }))
-      → P (setIdsOf s k c (new .real) (new .effective) (new .saved))
+      → chosen by k (processAt s i .namespace) (new .real) (idsIn k (processAt s i) .real) ≡ Id x
+      → chosen by k (processAt s i .namespace) (new .effective) (idsIn k (processAt s i) .effective) ≡ Id y
+      → chosen by k (processAt s i .namespace) (new .saved) (idsIn k (processAt s i) .saved) ≡ Id z
+      → P (record { reply = done; tables = putProcess s i (withIds by k (processAt s i) (record { real = x; effective = y; saved = z })) }))
+      → P (setIdsOf by s k c (new .real) (new .effective) (new .saved))
   unfolding setIdsOf
   set-ids-case k c new f =
       found-case P (processNamed s c) (no 3 is-3) (λ i e.
@@ -184,9 +184,9 @@ module _ (s : State) (P : Outcome → Type 0) (no : (e : ℕ) → Has e refusalN
       (λ t. no 1 is-1)))
 
   pub set-groups-case : (c : ℕ) (list : List ℕ)
-      → ((i : ℕ) (l : List ℕ) → processNamed s c ≡ At i → kernelGroups s (processAt s i .namespace) list ≡ some l
+      → ((i : ℕ) (l : List ℕ) → processNamed s c ≡ At i → kernelGroups by (processAt s i .namespace) list ≡ some l
       → P (record { reply = done; tables = putProcess s i (withList (processAt s i) (groupList l)) }))
-      → P (setGroupsOf s c list)
+      → P (setGroupsOf by s c list)
   unfolding setGroupsOf
   set-groups-case c list f =
       found-case P (processNamed s c) (no 3 is-3) (λ i e.
@@ -196,7 +196,7 @@ module _ (s : State) (P : Outcome → Type 0) (no : (e : ℕ) → Has e refusalN
       (λ u.
       test-case P (namespaceAt s (processAt s i .namespace) .deny) (λ v. no 1 is-1) (λ v.
       test-case P (ltb 16 (length list)) (λ w. no 22 is-22) (λ w.
-      list-case P (kernelGroups s (processAt s i .namespace) list) (no 22 is-22) (λ l g. f i l e g))))
+      list-case P (kernelGroups by (processAt s i .namespace) list) (no 22 is-22) (λ l g. f i l e g))))
       (λ u. no 1 is-1))
       (λ t. no 1 is-1))
 

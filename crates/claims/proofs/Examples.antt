@@ -16,7 +16,7 @@ use Rattle.idmap.specs.Show.{shown, numberText, lineColumns, lineText, linesTex
 use Rattle.lifted_map.specs.Lift.{commonOf, piecesOf, withIds, composedOf, liftedOf}
 use Rattle.tables.specs.Tables.{processAt, namespaceAt, liftedAt, firstLiftedMaps, initialTables}
 use Rattle.tables.specs.Find.{processNamed, namespaceNamed, freeFrom, freeProcessPlace, freeNamespacePlace}
-use Rattle.hierarchy.specs.Walks.{heightOf, outIn, toKernelBy, toKernel, backIn, fromKernelBy, fromKernel, ownedBy, holdsIn, capableIn}
+use Rattle.hierarchy.specs.Walks.{heightOf, ownedBy, holdsIn, capableIn}
 use Rattle.process.specs.Calls.{forkOf, knowsItself, below, entered, cloneOf, unshareOf, setnsOf}
 use Rattle.mapping.specs.Calls.{isNear, singleLine, mayMap, allCovered, withMap, mappedTables, writeLinesTo, writeMapTo, writeMapOf}
 use Rattle.mapping.specs.Calls.{sameBytes, isWord, withDeny, settingIn, writeSetgroupsTo, writeSetgroupsOf}
@@ -27,7 +27,7 @@ use Rattle.calls.specs.Calls.{Request}
 use Rattle.calls.specs.declared.Call.the-variants.{Clone, Setns}
 use Rattle.claims.specs.Events.{Event, forked, cloned, unshared, joined, mapped, changed}
 use Rattle.claims.specs.Words.{isNamespace, placeOf, parentOf, levelOf, mapOf, linesOf, heldOf, held}
-use Rattle.claims.specs.Translation.{Pairs, top, through, Under, here, outBy}
+use Rattle.claims.specs.Translation.{Pairs, top, through, Under, here, byLevels, outBy, backBy}
 use Rattle.claims.specs.TopLevel.{TopLevel, Stands, Has, Descends, Entered}
 use Rattle.claims.specs.History.{runFrom, historyFrom, history, events}
 use Rattle.claims.specs.Scenarios.{plain, fork, unshare, setIds, writeMap, bytesOf, line}
@@ -55,7 +55,7 @@ unfolding fitsAt putAt holds out reachOf fitsOf boundedOf apartSide apartOf allA
     pieces filled consOf allOf allDigits decimal numberOf numbersOf threeOf lineOf textLines checked mapLines padded
     shown numberText lineColumns lineText linesText
     processAt namespaceAt liftedAt firstLiftedMaps initialTables processNamed namespaceNamed freeFrom freeProcessPlace freeNamespacePlace
-    heightOf outIn toKernelBy toKernel backIn fromKernelBy fromKernel ownedBy holdsIn capableIn
+    heightOf byLevels outBy backBy ownedBy holdsIn capableIn
     forkOf knowsItself below entered unshareOf
     isNear singleLine mayMap allCovered withMap mappedTables writeLinesTo writeMapTo writeMapOf
     sameBytes isWord withDeny settingIn writeSetgroupsTo writeSetgroupsOf readText viewOf shownLine mapTextOf readMapOf

@@ -27,11 +27,13 @@ use Rattle.records.specs.Records.{mapIn, isWritten, linesOf}
 use Rattle.tables.specs.declared.find.Found.the-variants.{At}
 use Rattle.tables.specs.Tables.{State, processAt, namespaceAt, liftedAt, putNamespace}
 use Rattle.tables.specs.Find.{processNamed}
+use Rattle.hierarchy.specs.Walks.{Translation}
 use Rattle.mapping.specs.Calls.{allCovered, writtenMap, withMap, mappedTables, writeMapOf, withDeny, writeSetgroupsOf}
 use Rattle.calls.specs.declared.Call.the-variants.{WriteMap, WriteSetgroups}
 use Rattle.claims.specs.Events.{Event, other, mapped}
-use Rattle.claims.specs.Words.{isProcess, isNamespace, placeOf, parentOf, levelOf, mapOf, orNone, liftedBy, liftOf, heldOf, sameKind}
-use Rattle.claims.specs.Agreement.{linesIf, writtenIn, Agreed}
+use Rattle.claims.specs.Words.{isProcess, isNamespace, placeOf, parentOf, levelOf, mapOf, orNone, heldOf, sameKind}
+use Rattle.claims.specs.Agreement.{linesIf, writtenIn}
+use Rattle.claims.proofs.Matching.{liftedBy, Matched, liftOf}
 use Rattle.claims.proofs.Allowed.{SoundAt}
 use Rattle.claims.proofs.Stores.{namespace-in-range}
 use Rattle.claims.proofs.Agree.{picked-same, stores-namespace, stores-lifted, lines-of, caller-live, caller-place}
@@ -107,7 +109,7 @@ unwritten-is m e = by-state (m .state) e
     by-state Unwritten e = refl
     by-state (Written n) e = absurd (true≢false e)
 
-module _ (s : State) (h : List Event) (a : Agreed s h) (d : SoundAt h) (text list : List ℕ) where
+module _ (by : Translation) (s : State) (h : List Event) (a : Matched s h) (d : SoundAt h) (text list : List ℕ) where
   -- the namespace of a process that is named
   module _ (name p : ℕ) (e : processNamed s name ≡ At p) where
     target : ℕ
@@ -185,10 +187,10 @@ module _ (s : State) (h : List Event) (a : Agreed s h) (d : SoundAt h) (text lis
         (λ i. picked-same (levelOf h) i n _ (a .namespace-level n))
         (λ k i. picked-same (mapOf k h) i n _ (ap writtenIn (deny-map k (namespaceAt s n) b) ∙ a .namespace-map k n)))
 
-  pub write-map-next : (k : Kind) (c name : ℕ) → After h (WriteMap k c name) text list (writeMapOf s k c name text)
+  pub write-map-next : (k : Kind) (c name : ℕ) → After h (WriteMap k c name) text list (writeMapOf by s k c name text)
   write-map-next k c name =
-      write-map-case s (After h (WriteMap k c name) text list) (λ e i. nothing-happened s h a) k c name text (λ p ls e w m g. mapped-next name p e k ls m w g)
+      write-map-case by s (After h (WriteMap k c name) text list) (λ e i. nothing-happened s h a) k c name text (λ p ls e w m g. mapped-next name p e k ls m w g)
 
   pub write-setgroups-next : (c name : ℕ) → After h (WriteSetgroups c name) text list (writeSetgroupsOf s c name text)
   write-setgroups-next c name =
-      write-setgroups-case s (After h (WriteSetgroups c name) text list) (λ e i. nothing-happened s h a) c name text (λ p b e. set-next name p e b)
+      write-setgroups-case by s (After h (WriteSetgroups c name) text list) (λ e i. nothing-happened s h a) c name text (λ p b e. set-next name p e b)

@@ -20,34 +20,36 @@ use Rattle.records.specs.Records.{idsIn}
 use Rattle.tables.specs.declared.find.Found.the-variants.{At}
 use Rattle.tables.specs.Tables.{State, processAt, putProcess}
 use Rattle.tables.specs.Find.{processNamed}
+use Rattle.hierarchy.specs.Walks.{Translation}
 use Rattle.credentials.specs.Calls.{chosen, withUsers, withGroups, withIds, setIdsOf, toOption, groupList, withList, kernelGroups, setGroupsOf, withSets, dropOf}
 use Rattle.calls.specs.declared.Call.the-variants.{SetIds, SetGroups, Drop}
 use Rattle.claims.specs.Events.{Event, other, changed, grouped}
-use Rattle.claims.specs.Words.{Held, isProcess, isNamespace, placeOf, parentOf, levelOf, mapOf, liftOf, heldOf, standsFor, chosenOf, changedIds, sameKind}
+use Rattle.claims.specs.Words.{Held, isProcess, isNamespace, placeOf, parentOf, levelOf, mapOf, heldOf, standsFor, chosenOf, changedIds, sameKind}
 use Rattle.claims.specs.History.{AllSmall}
-use Rattle.claims.specs.Agreement.{moreIn, heldIn, Agreed}
+use Rattle.claims.specs.Agreement.{moreIn, heldIn}
+use Rattle.claims.proofs.Matching.{Matched, liftOf}
 use Rattle.claims.proofs.Allowed.{SoundAt, AllStand}
 use Rattle.claims.proofs.Stores.{named, process-in-range, same-number}
 use Rattle.claims.proofs.Agree.{picked-same, stores-process, keeps-process, caller-is, caller-live, caller-place, caller-ids}
-use Rattle.claims.proofs.Translating.{LiftsAt, stands-agrees}
+use Rattle.claims.proofs.Translating.{byHistory}
 use Rattle.claims.proofs.Kept.{same-kind}
 use Rattle.prelude.proofs.Tests.{by-test}
 use Rattle.claims.proofs.Steps.{Next, nothing-happened, After}
 use Rattle.claims.proofs.Cases.{set-ids-case, set-groups-case, drop-case}
 
 -- ---- a process with other IDs is as before otherwise
-ids-live : (s : State) (k : Kind) (p : Process) (new : Ids) → withIds s k p new .live ≡ p .live
+ids-live : (by : Translation) (k : Kind) (p : Process) (new : Ids) → withIds by k p new .live ≡ p .live
 unfolding withUsers withGroups
 ids-live s User p new = refl
 ids-live s Group p new = refl
 
-ids-place : (s : State) (k : Kind) (p : Process) (new : Ids) → withIds s k p new .namespace ≡ p .namespace
+ids-place : (by : Translation) (k : Kind) (p : Process) (new : Ids) → withIds by k p new .namespace ≡ p .namespace
 unfolding withUsers withGroups
 ids-place s User p new = refl
 ids-place s Group p new = refl
 
 -- what it carries: the new IDs of that kind
-ids-held : (j k : Kind) (s : State) (p : Process) (new : Ids) → heldIn j (withIds s k p new) ≡ cond (sameKind j k) (record { three = new; more = moreIn j p }) (heldIn j p)
+ids-held : (j k : Kind) (by : Translation) (p : Process) (new : Ids) → heldIn j (withIds by k p new) ≡ cond (sameKind j k) (record { three = new; more = moreIn j p }) (heldIn j p)
 unfolding withUsers withGroups
 ids-held User User s p new = refl
 ids-held User Group s p new = refl
@@ -89,11 +91,14 @@ groups-stand h n (x ∷ list) l b e =
     let r = cons-some (toOption (standsFor Group h n x)) (allOf (λ (x : ℕ). toOption (standsFor Group h n x)) list) l e in
     (b .0, (r .0, option-id (standsFor Group h n x) (r .0) (r .2)), groups-stand h n list (r .1) (b .1) (r .3))
 
-module _ (s : State) (h : List Event) (a : Agreed s h) (d : SoundAt h) (o : LiftsAt h) (text list : List ℕ) where
+module _ (by : Translation) (s : State) (h : List Event) (a : Matched s h) (o : by ≡ byHistory h) (text list : List ℕ) where
+  outs : (k : Kind) (n x : ℕ) → by .out k n x ≡ standsFor k h n x
+  outs k n x = λ j. o j .out k n x
+
   module _ (c i : ℕ) (e : processNamed s c ≡ At i) where
     -- one of the three: the tables choose as the history does
-    chosen-agrees : (k : Kind) (x old old′ : ℕ) → old ≡ old′ → chosen s k (processAt s i .namespace) x old ≡ chosenOf k h (placeOf h c) x old′
-    chosen-agrees k x old old′ f = rw (f, stands-agrees s h a d o k (processAt s i .namespace) x, caller-place s h a c i e)
+    chosen-agrees : (k : Kind) (x old old′ : ℕ) → old ≡ old′ → chosen by k (processAt s i .namespace) x old ≡ chosenOf k h (placeOf h c) x old′
+    chosen-agrees k x old old′ f = rw (f, outs k (processAt s i .namespace) x, caller-place s h a c i e)
 
     real-is : (k : Kind) → idsIn k (processAt s i) .real ≡ heldOf k h c .three .real
     real-is k = ap (λ (m : Held). m .three .real) (caller-ids s h a c i e k)
@@ -105,9 +110,9 @@ module _ (s : State) (h : List Event) (a : Agreed s h) (d : SoundAt h) (o : Lift
     saved-is k = ap (λ (m : Held). m .three .saved) (caller-ids s h a c i e k)
 
     module _ (k : Kind) (new : Ids) (x y z : ℕ)
-        (fx : chosen s k (processAt s i .namespace) (new .real) (idsIn k (processAt s i) .real) ≡ Id x)
-        (fy : chosen s k (processAt s i .namespace) (new .effective) (idsIn k (processAt s i) .effective) ≡ Id y)
-        (fz : chosen s k (processAt s i .namespace) (new .saved) (idsIn k (processAt s i) .saved) ≡ Id z) where
+        (fx : chosen by k (processAt s i .namespace) (new .real) (idsIn k (processAt s i) .real) ≡ Id x)
+        (fy : chosen by k (processAt s i .namespace) (new .effective) (idsIn k (processAt s i) .effective) ≡ Id y)
+        (fz : chosen by k (processAt s i .namespace) (new .saved) (idsIn k (processAt s i) .saved) ≡ Id z) where
       abbrev after : Ids
       after = record { real = x; effective = y; saved = z }
 
@@ -129,21 +134,21 @@ module _ (s : State) (h : List Event) (a : Agreed s h) (d : SoundAt h) (o : Lift
       held-is : _≡_ {A = Held} (record { three = after; more = moreIn k (processAt s i) }) (record { three = changedIds k h (placeOf h c) new (heldOf k h c .three); more = heldOf k h c .more })
       held-is = rw (changed-is, more-is)
 
-      held-after : (j : Kind) (m : ℕ) → cond (eqb m i) (heldIn j (withIds s k (processAt s i) after)) (heldOf j h (suc m))
+      held-after : (j : Kind) (m : ℕ) → cond (eqb m i) (heldIn j (withIds by k (processAt s i) after)) (heldOf j h (suc m))
           ≡ cond (sameKind j k && eqb (suc m) c) (record { three = changedIds j h (placeOf h c) new (heldOf j h c .three); more = heldOf j h c .more }) (heldOf j h (suc m))
       held-after j m =
           by-test (sameKind j k)
           (λ t.
           let f = subst (λ (r : Kind). _≡_ {A = Held} (record { three = after; more = moreIn r (processAt s i) }) (record { three = changedIds r h (placeOf h c) new (heldOf r h c .three); more = heldOf r h c .more })) (sym (same-kind j k t)) held-is in
-          rw (ids-held j k s (processAt s i) after, t, same-number m c i (caller-is s h a c i e), f))
-          (λ t. rw (ids-held j k s (processAt s i) after, t) (picked-same (λ (r : ℕ). heldOf j h (suc r)) m i (heldIn j (processAt s i)) (a .process-ids j i)))
+          rw (ids-held j k by (processAt s i) after, t, same-number m c i (caller-is s h a c i e), f))
+          (λ t. rw (ids-held j k by (processAt s i) after, t) (picked-same (λ (r : ℕ). heldOf j h (suc r)) m i (heldIn j (processAt s i)) (a .process-ids j i)))
 
-      changed-next : new .real < 2 ^ 32 → new .effective < 2 ^ 32 → new .saved < 2 ^ 32 → Next h (changed k c new) (putProcess s i (withIds s k (processAt s i) after))
+      changed-next : new .real < 2 ^ 32 → new .effective < 2 ^ 32 → new .saved < 2 ^ 32 → Next h (changed k c new) (putProcess s i (withIds by k (processAt s i) after))
       unfolding isProcess isNamespace placeOf parentOf levelOf mapOf liftOf heldOf
       changed-next u v w = record {
-        agree = stores-process s _ _ _ _ _ _ _ _ a i (withIds s k (processAt s i) after) (process-in-range s i (named s c i e .1)) _ _ _
-            (λ m. picked-same (λ (r : ℕ). isProcess h (suc r)) m i _ (ids-live s k (processAt s i) after ∙ a .process-live i))
-            (λ m. picked-same (λ (r : ℕ). placeOf h (suc r)) m i _ (ids-place s k (processAt s i) after ∙ a .process-place i))
+        agree = stores-process s _ _ _ _ _ _ _ _ a i (withIds by k (processAt s i) after) (process-in-range s i (named s c i e .1)) _ _ _
+            (λ m. picked-same (λ (r : ℕ). isProcess h (suc r)) m i _ (ids-live by k (processAt s i) after ∙ a .process-live i))
+            (λ m. picked-same (λ (r : ℕ). placeOf h (suc r)) m i _ (ids-place by k (processAt s i) after ∙ a .process-place i))
             held-after;
         allowed = record {
           caller = caller-live s h a c i e;
@@ -153,26 +158,26 @@ module _ (s : State) (h : List Event) (a : Agreed s h) (d : SoundAt h) (o : Lift
         };
       }
 
-  pub set-ids-next : (k : Kind) (c : ℕ) (new : Ids) → new .real < 2 ^ 32 → new .effective < 2 ^ 32 → new .saved < 2 ^ 32 → After h (SetIds k c new) text list (setIdsOf s k c (new .real) (new .effective) (new .saved))
+  pub set-ids-next : (k : Kind) (c : ℕ) (new : Ids) → new .real < 2 ^ 32 → new .effective < 2 ^ 32 → new .saved < 2 ^ 32 → After h (SetIds k c new) text list (setIdsOf by s k c (new .real) (new .effective) (new .saved))
   set-ids-next k c new u v w =
-      set-ids-case s (After h (SetIds k c new) text list) (λ e i. nothing-happened s h a) k c new
+      set-ids-case by s (After h (SetIds k c new) text list) (λ e i. nothing-happened s h a) k c new
       (λ i x y z e fx fy fz. changed-next c i e k new x y z fx fy fz u v w)
 
   -- ---- drop
   pub drop-next : (c permitted effective : ℕ) → After h (Drop c permitted effective) text list (dropOf s c permitted effective)
   unfolding withSets
   drop-next c permitted effective =
-      drop-case s (After h (Drop c permitted effective) text list) (λ e i. nothing-happened s h a) c permitted effective (λ i e.
+      drop-case by s (After h (Drop c permitted effective) text list) (λ e i. nothing-happened s h a) c permitted effective (λ i e.
       nothing-happened _ h
       (keeps-process s _ _ _ _ _ _ _ _ a i (withSets (processAt s i) permitted effective) (process-in-range s i (named s c i e .1)) refl refl
       (λ k. sets-ids k (processAt s i) permitted effective)))
 
   -- ---- setgroups
-  module _ (c i : ℕ) (e : processNamed s c ≡ At i) (l : List ℕ) (f : kernelGroups s (processAt s i .namespace) list ≡ some l) where
+  module _ (c i : ℕ) (e : processNamed s c ≡ At i) (l : List ℕ) (f : kernelGroups by (processAt s i .namespace) list ≡ some l) where
     all-stand : allOf (λ (x : ℕ). toOption (standsFor Group h (placeOf h c) x)) list ≡ some l
     unfolding kernelGroups
     all-stand =
-        ap (λ (g : ℕ → Translated). allOf (λ (x : ℕ). toOption (g x)) list) (λ j x. (sym (ap (λ (n : ℕ). standsFor Group h n x) (caller-place s h a c i e)) ∙ sym (stands-agrees s h a d o Group (processAt s i .namespace) x)) j)
+        ap (λ (g : ℕ → Translated). allOf (λ (x : ℕ). toOption (g x)) list) (λ j x. (sym (ap (λ (n : ℕ). standsFor Group h n x) (caller-place s h a c i e)) ∙ sym (outs Group (processAt s i .namespace) x)) j)
         ∙ f
 
     listed : take (groupList l .count) (groupList l .ids) ≡ map (λ (x : ℕ). orNoId (standsFor Group h (placeOf h c) x)) list
@@ -197,6 +202,6 @@ module _ (s : State) (h : List Event) (a : Agreed s h) (d : SoundAt h) (o : Lift
       allowed = record { caller = caller-live s h a c i e; each = groups-stand h (placeOf h c) list l b all-stand };
     }
 
-  pub set-groups-next : (c : ℕ) → AllSmall list → After h (SetGroups c) text list (setGroupsOf s c list)
+  pub set-groups-next : (c : ℕ) → AllSmall list → After h (SetGroups c) text list (setGroupsOf by s c list)
   set-groups-next c b =
-      set-groups-case s (After h (SetGroups c) text list) (λ e i. nothing-happened s h a) c list (λ i l e f. grouped-next c i e l f b)
+      set-groups-case by s (After h (SetGroups c) text list) (λ e i. nothing-happened s h a) c list (λ i l e f. grouped-next c i e l f b)

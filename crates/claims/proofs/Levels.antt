@@ -15,7 +15,7 @@ use Rattle.idmap.specs.Good.{noId, goodOf}
 use Rattle.idmap.proofs.Translation.{two-answers}
 use Rattle.hierarchy.specs.Walks.{itself}
 use Rattle.prelude.proofs.Tests.{by-test}
-use Rattle.claims.specs.Translation.{Pairs, Out, top, through, Back, bottom, down, outBy, backBy, Under, here, below}
+use Rattle.claims.specs.Translation.{Pairs, Out, top, through, Back, bottom, down, Under, here, below, outBy, backBy}
 use Rattle.claims.proofs.Pairs.{out-pairs, pairs-out, back-pairs, pairs-back, inside-small, parent-small}
 
 -- a translation is an ID or not

@@ -6,6 +6,7 @@ pub mod Kept
 pub mod Stays
 pub mod Carried
 pub mod Stores
+pub mod Matching
 pub mod Agree
 pub mod Lifting
 pub mod Translating
@@ -15,6 +16,7 @@ pub mod FileSteps
 pub mod IdSteps
 pub mod Start
 pub mod Theorem
+pub mod Same
 pub mod Bounds
 pub mod Refusals
 pub mod Scenarios

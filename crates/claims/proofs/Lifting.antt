@@ -21,8 +21,9 @@ use Rattle.lifted_map.proofs.Composition.{composed-good, composed-out}
 use Rattle.records.specs.declared.Kind.{Kind}
 use Rattle.tables.specs.Tables.{noLift, fixedLift}
 use Rattle.prelude.proofs.Tests.{by-test, and-left, and-right}
-use Rattle.claims.specs.Words.{sameKind, orNone, liftedBy}
+use Rattle.claims.specs.Words.{sameKind, orNone}
 use Rattle.claims.specs.Translation.{Pairs, Out, top, through}
+use Rattle.claims.proofs.Matching.{liftedBy}
 use Rattle.claims.proofs.Sound.{map-lines-good}
 use Rattle.claims.proofs.Pairs.{out-pairs, pairs-out, parent-small}
 use Rattle.claims.proofs.Levels.{by-translated}

@@ -11,7 +11,7 @@ use Rattle.idmap.specs.declared.Translated.the-variants.{Id, Unmapped}
 use Rattle.tables.specs.Tables.{State, processAt}
 use Rattle.tables.specs.Find.{processNamed, namespaceNamed}
 use Rattle.tables.specs.Reply.{Reply, refused, yes′, no′, isRefused, Outcome}
-use Rattle.hierarchy.specs.Walks.{capableIn}
+use Rattle.hierarchy.specs.Walks.{Translation, capableIn}
 use Rattle.mapping.specs.Calls.{ReadOutcome, readText, readMapOf, readSetgroupsOf}
 use Rattle.credentials.specs.declared.own.OwnIds.{OwnIds}
 use Rattle.credentials.specs.Calls.{capableReply, ownIdsOf, translated, turned, translateReply}
@@ -30,7 +30,7 @@ refuses s buffer n i e q = let f : n ≡ e = cc in (subst (λ (m : ℕ). Has m r
 answers : (s t : State) (buffer after : List ℕ) (r : Reply) → isRefused r ≡ false → Refuses s buffer (record { reply = r; tables = t; buffer = after })
 answers s t buffer after r f e q = absurd (true≢false (sym (ap isRefused q) ∙ f))
 
-module _ (s : State) (buffer : List ℕ) where
+module _ (by : Translation) (s : State) (buffer : List ℕ) where
   abbrev Stored : Outcome → Type 0
   Stored o = Refuses s buffer (stored o buffer)
 
@@ -55,34 +55,34 @@ module _ (s : State) (buffer : List ℕ) where
   question true = refl
   question false = refl
 
-  call-refuses : (c : Call) (text list : List ℕ) → Refuses s buffer (answerBy s c text list buffer)
+  call-refuses : (c : Call) (text list : List ℕ) → Refuses s buffer (answerBy by s c text list buffer)
   unfolding answerBy readMapOf readSetgroupsOf capableReply ownIdsOf translateReply
-  call-refuses (Fork c) text list = fork-case s Stored (refuses s buffer) c (λ i q e f. answers s _ buffer _ _ refl)
-  call-refuses (Clone c) text list = clone-case s Stored (refuses s buffer) c (λ p n q r f. answers s _ buffer _ _ refl)
-  call-refuses (Unshare c) text list = unshare-case s Stored (refuses s buffer) c (λ p n r. answers s _ buffer _ _ refl)
-  call-refuses (Setns c n) text list = setns-case s Stored (refuses s buffer) c n (λ p m e f t. answers s _ buffer _ _ refl)
-  call-refuses (WriteMap k c p) text list = write-map-case s Stored (refuses s buffer) k c p text (λ q ls e w m g. answers s _ buffer _ _ refl)
-  call-refuses (WriteSetgroups c p) text list = write-setgroups-case s Stored (refuses s buffer) c p text (λ q b e. answers s _ buffer _ _ refl)
+  call-refuses (Fork c) text list = fork-case by s Stored (refuses s buffer) c (λ i q e f. answers s _ buffer _ _ refl)
+  call-refuses (Clone c) text list = clone-case by s Stored (refuses s buffer) c (λ p n q r f. answers s _ buffer _ _ refl)
+  call-refuses (Unshare c) text list = unshare-case by s Stored (refuses s buffer) c (λ p n r. answers s _ buffer _ _ refl)
+  call-refuses (Setns c n) text list = setns-case by s Stored (refuses s buffer) c n (λ p m e f t. answers s _ buffer _ _ refl)
+  call-refuses (WriteMap k c p) text list = write-map-case by s Stored (refuses s buffer) k c p text (λ q ls e w m g. answers s _ buffer _ _ refl)
+  call-refuses (WriteSetgroups c p) text list = write-setgroups-case by s Stored (refuses s buffer) c p text (λ q b e. answers s _ buffer _ _ refl)
   call-refuses (ReadMap k c p) text list =
       found-case Read (processNamed s c) (refuses s buffer 3 is-3) (λ r e.
       found-case Read (processNamed s p) (refuses s buffer 3 is-3) (λ q f. read-text _))
   call-refuses (ReadSetgroups c p) text list =
       found-case Read (processNamed s c) (refuses s buffer 3 is-3) (λ r e.
       found-case Read (processNamed s p) (refuses s buffer 3 is-3) (λ q f. read-text _))
-  call-refuses (SetIds k c i) text list = set-ids-case s Stored (refuses s buffer) k c i (λ j x y z e fx fy fz. answers s _ buffer _ _ refl)
-  call-refuses (SetGroups c) text list = set-groups-case s Stored (refuses s buffer) c list (λ i l e f. answers s _ buffer _ _ refl)
+  call-refuses (SetIds k c i) text list = set-ids-case by s Stored (refuses s buffer) k c i (λ j x y z e fx fy fz. answers s _ buffer _ _ refl)
+  call-refuses (SetGroups c) text list = set-groups-case by s Stored (refuses s buffer) c list (λ i l e f. answers s _ buffer _ _ refl)
   call-refuses (Capable c n number) text list =
       found-case Asked (processNamed s c) (refuses s buffer 3 is-3) (λ i e.
       found-case Asked (namespaceNamed s n) (refuses s buffer 3 is-3) (λ m f.
       by-test (ltb 36 number)
       (λ t. rw t (refuses s buffer 22 is-22))
       (λ t. rw t (answers s s buffer _ _ (question (capableIn s (processAt s i) m number))))))
-  call-refuses (Drop c p e) text list = drop-case s Stored (refuses s buffer) c p e (λ i f. answers s _ buffer _ _ refl)
+  call-refuses (Drop c p e) text list = drop-case by s Stored (refuses s buffer) c p e (λ i f. answers s _ buffer _ _ refl)
   call-refuses (OwnIdsOf c) text list =
       found-case (λ (r : OwnIds). Asked (callReply r)) (processNamed s c) (refuses s buffer 3 is-3) (λ i e. answers s s buffer _ _ refl)
   call-refuses (Translate k w c n x) text list =
       found-case Asked (processNamed s c) (refuses s buffer 3 is-3) (λ i e.
-      found-case Asked (namespaceNamed s n) (refuses s buffer 3 is-3) (λ m f. answers s s buffer _ _ (translation (turned s k w m x))))
+      found-case Asked (namespaceNamed s n) (refuses s buffer 3 is-3) (λ m f. answers s s buffer _ _ (translation (turned by k w m x))))
 
-pub refusals : (s : State) (r : Request) → RefusesWell s r
-refusals s r = call-refuses s (r .buffer) (r .call) (r .text) (r .list)
+pub refusals : (by : Translation) (s : State) (r : Request) → RefusesWell by s r
+refusals by s r = call-refuses by s (r .buffer) (r .call) (r .text) (r .list)

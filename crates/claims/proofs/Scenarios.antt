@@ -12,15 +12,16 @@ use Rattle.idmap.specs.Show.{shown, numberText, lineColumns, lineText, linesTex
 use Rattle.lifted_map.specs.Lift.{commonOf, piecesOf, withIds, composedOf, liftedOf}
 use Rattle.tables.specs.Tables.{processAt, namespaceAt, liftedAt, firstLiftedMaps, initialTables}
 use Rattle.tables.specs.Find.{processNamed, namespaceNamed, freeFrom, freeProcessPlace, freeNamespacePlace}
-use Rattle.hierarchy.specs.Walks.{heightOf, outIn, toKernelBy, toKernel, backIn, fromKernelBy, fromKernel, ownedBy, holdsIn, capableIn}
+use Rattle.hierarchy.specs.Walks.{heightOf, ownedBy, holdsIn, capableIn}
 use Rattle.process.specs.Calls.{forkOf, knowsItself, below, entered, unshareOf}
 use Rattle.mapping.specs.Calls.{isNear, singleLine, mayMap, allCovered, withMap, mappedTables, writeLinesTo, writeMapTo, writeMapOf}
 use Rattle.mapping.specs.Calls.{sameBytes, isWord, withDeny, settingIn, writeSetgroupsTo, writeSetgroupsOf}
 use Rattle.mapping.specs.Calls.{readText, viewOf, shownLine, mapTextOf, readMapOf}
 use Rattle.credentials.specs.Calls.{withUsers, withGroups, mayTake, setIdsOf, setGroupsOf, capableReply, translateReply}
 use Rattle.calls.specs.Calls.{answerBy}
-use Rattle.claims.specs.History.{runFrom}
-use Rattle.claims.specs.Scenarios.{Scenario, scenarios, answersFrom, found, expected, AllOf, AllComeOut}
+use Rattle.claims.specs.Translation.{byLevels, outBy, backBy}
+use Rattle.claims.specs.History.{runFrom, answersFrom}
+use Rattle.claims.specs.Scenarios.{Scenario, scenarios, found, expected, AllOf, AllComeOut}
 
 -- where all results are as expected, each scenario comes out
 each : (cs : List Scenario) → map found cs ≡ map expected cs → AllOf cs
@@ -33,7 +34,7 @@ unfolding fitsAt putAt holds out reachOf fitsOf boundedOf apartSide apartOf allA
     pieces filled consOf allOf allDigits decimal numberOf numbersOf threeOf lineOf textLines checked mapLines padded
     shown numberText lineColumns lineText linesText
     processAt namespaceAt liftedAt firstLiftedMaps initialTables processNamed namespaceNamed freeFrom freeProcessPlace freeNamespacePlace
-    heightOf outIn toKernelBy toKernel backIn fromKernelBy fromKernel ownedBy holdsIn capableIn
+    heightOf byLevels outBy backBy ownedBy holdsIn capableIn
     forkOf knowsItself below entered unshareOf
     isNear singleLine mayMap allCovered withMap mappedTables writeLinesTo writeMapTo writeMapOf
     sameBytes isWord withDeny settingIn writeSetgroupsTo writeSetgroupsOf readText viewOf shownLine mapTextOf readMapOf

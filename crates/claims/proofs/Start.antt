@@ -14,8 +14,9 @@ use Rattle.records.specs.declared.Namespace.{Namespace}
 use Rattle.records.specs.Records.{freeProcess, freeNamespace, mapIn}
 use Rattle.tables.specs.Tables.{State, processAt, namespaceAt, liftedMaps, noLift, fixedLift, liftedAt, putProcess, firstProcess, rootNamespace, firstLiftedMaps, initialTables, allZero}
 use Rattle.prelude.proofs.Tests.{by-test}
-use Rattle.claims.specs.Words.{isProcess, isNamespace, placeOf, parentOf, levelOf, mapOf, liftOf, heldOf}
-use Rattle.claims.specs.Agreement.{heldIn, writtenIn, Agrees, Agreed}
+use Rattle.claims.specs.Words.{isProcess, isNamespace, placeOf, parentOf, levelOf, mapOf, heldOf}
+use Rattle.claims.specs.Agreement.{heldIn, writtenIn}
+use Rattle.claims.proofs.Matching.{Matches, Matched, liftOf}
 use Rattle.claims.proofs.Stores.{stored-or-kept, next-number}
 use Rattle.claims.proofs.Agree.{stores-process, stores-namespace}
 
@@ -51,7 +52,7 @@ first-lifts User i = first-lift i
 first-lifts Group i = first-lift i
 
 -- tables with no process and no namespace
-empty-agrees : Agrees empty (λ (i : ℕ). false) (λ (i : ℕ). false) (λ (i : ℕ). 0) (λ (i : ℕ). 0) (λ (i : ℕ). 0) (λ (k : Kind) (i : ℕ). none) (λ (k : Kind). liftOf k []) (λ (k : Kind) (i : ℕ). record { three = allZero; more = [] })
+empty-agrees : Matches empty (λ (i : ℕ). false) (λ (i : ℕ). false) (λ (i : ℕ). 0) (λ (i : ℕ). 0) (λ (i : ℕ). 0) (λ (k : Kind) (i : ℕ). none) (λ (k : Kind). liftOf k []) (λ (k : Kind) (i : ℕ). record { three = allZero; more = [] })
 unfolding processAt namespaceAt
 empty-agrees = record {
   process-places = length-replicate 128 freeProcess;
@@ -80,7 +81,7 @@ is-it : (t : Bool) → cond t true false ≡ t
 is-it true = refl
 is-it false = refl
 
-pub start-agrees : Agreed initialTables []
+pub start-agrees : Matched initialTables []
 unfolding initialTables isProcess isNamespace placeOf parentOf levelOf heldOf
 start-agrees =
     stores-namespace (putProcess empty 0 firstProcess) _ _ _ _ _ _ _ _

@@ -17,19 +17,20 @@ use Rattle.tables.specs.declared.find.Found.the-variants.{At}
 use Rattle.tables.specs.Tables.{State, processAt, namespaceAt, putProcess}
 use Rattle.tables.specs.Find.{processNamed, namespaceNamed, freeProcessPlace, freeNamespacePlace}
 use Rattle.tables.specs.Reply.{Outcome}
-use Rattle.hierarchy.specs.Walks.{heightOf, ownedBy, holdsIn, capableIn}
+use Rattle.hierarchy.specs.Walks.{Translation, heightOf, ownedBy, holdsIn, capableIn}
 use Rattle.capability.specs.Sets.{holds}
 use Rattle.process.specs.Calls.{sysAdmin, forkOf, below, entered, withChild, cloneOf, unshareOf, setnsOf}
 use Rattle.calls.specs.declared.Call.{Call}
 use Rattle.calls.specs.declared.Call.the-variants.{Fork, Clone, Unshare, Setns}
 use Rattle.prelude.proofs.Tests.{by-test, and-left}
 use Rattle.claims.specs.Events.{Event, other, forked, cloned, unshared, joined}
-use Rattle.claims.specs.Words.{isProcess, isNamespace, placeOf, parentOf, levelOf, mapOf, liftOf, heldOf}
+use Rattle.claims.specs.Words.{isProcess, isNamespace, placeOf, parentOf, levelOf, mapOf, heldOf}
 use Rattle.claims.specs.Translation.{here}
 use Rattle.claims.specs.Translation.{below as under-parent}
 use Rattle.claims.specs.TopLevel.{IsUnder}
 use Rattle.claims.specs.History.{happenedBy}
-use Rattle.claims.specs.Agreement.{heldIn, writtenIn, Agrees, Agreed}
+use Rattle.claims.specs.Agreement.{heldIn, writtenIn}
+use Rattle.claims.proofs.Matching.{Matches, Matched, liftOf}
 use Rattle.claims.proofs.Allowed.{Allowed, SoundAt, NewNamespace}
 use Rattle.claims.proofs.Stores.{named, space-named, free-process, free-namespace, process-in-range, next-number, same-number}
 use Rattle.claims.proofs.Cases.{fork-case, clone-case, unshare-case, setns-case}
@@ -37,18 +38,18 @@ use Rattle.claims.proofs.Agree.{picked-same, stores-process, stores-nam
 
 -- the tables after an event agree with the history that it lengthens, and it was allowed
 pub record Next (h : List Event) (e : Event) (t : State) : Type 0 where
-  pub agree : Agreed t (e ∷ h)
+  pub agree : Matched t (e ∷ h)
   pub allowed : Allowed h e
 
 -- nothing happened
-pub nothing-happened : (s : State) (h : List Event) → Agreed s h → Next h other s
+pub nothing-happened : (s : State) (h : List Event) → Matched s h → Next h other s
 unfolding isProcess isNamespace placeOf parentOf levelOf mapOf liftOf heldOf
 nothing-happened s h a = record { agree = a; allowed = tt }
 
 abbrev pub After : List Event → Call → List ℕ → List ℕ → Outcome → Type 0
 After h c text list o = Next h (happenedBy c text list (o .reply)) (o .tables)
 
-module _ (s : State) (h : List Event) (a : Agreed s h) (d : SoundAt h) (text list : List ℕ) where
+module _ (by : Translation) (s : State) (h : List Event) (a : Matched s h) (d : SoundAt h) (text list : List ℕ) where
   -- ---- fork
   forked-next : (c i q : ℕ) → processNamed s c ≡ At i → freeProcessPlace s ≡ At q → Next h (forked c (q + 1)) (putProcess s q (processAt s i))
   unfolding isProcess isNamespace placeOf parentOf levelOf mapOf liftOf heldOf
@@ -65,7 +66,7 @@ module _ (s : State) (h : List Event) (a : Agreed s h) (d : SoundAt h) (text lis
   }
 
   pub fork-next : (c : ℕ) → After h (Fork c) text list (forkOf s c)
-  fork-next c = fork-case s (After h (Fork c) text list) (λ e i. nothing-happened s h a) c (λ i q e f. forked-next c i q e f)
+  fork-next c = fork-case by s (After h (Fork c) text list) (λ e i. nothing-happened s h a) c (λ i q e f. forked-next c i q e f)
 
   -- ---- a new namespace
   fresh-map : (k : Kind) (p : Process) (n : Namespace) → writtenIn (mapIn k (below p n)) ≡ none
@@ -93,7 +94,7 @@ module _ (s : State) (h : List Event) (a : Agreed s h) (d : SoundAt h) (text lis
     }
 
     -- the namespace is stored, and every process is as it was
-    with-child : Agrees (withChild s p n) (isProcess h) (λ (i : ℕ). cond (eqb i n) true (isNamespace h i)) (placeOf h)
+    with-child : Matches (withChild s p n) (isProcess h) (λ (i : ℕ). cond (eqb i n) true (isNamespace h i)) (placeOf h)
         (λ (i : ℕ). cond (eqb i n) (placeOf h c) (parentOf h i)) (λ (i : ℕ). cond (eqb i n) (suc (levelOf h (placeOf h c))) (levelOf h i))
         (λ (k : Kind). mapOf k h) (λ (k : Kind). liftOf k h) (λ (k : Kind). heldOf k h)
     unfolding below
@@ -131,13 +132,13 @@ module _ (s : State) (h : List Event) (a : Agreed s h) (d : SoundAt h) (text lis
       allowed = new-namespace;
     }
 
-  pub clone-next : (c : ℕ) → After h (Clone c) text list (cloneOf s c)
+  pub clone-next : (c : ℕ) → After h (Clone c) text list (cloneOf by s c)
   clone-next c =
-      clone-case s (After h (Clone c) text list) (λ e i. nothing-happened s h a) c (λ p n q (e, g, r) f. cloned-next c p n e g r q f)
+      clone-case by s (After h (Clone c) text list) (λ e i. nothing-happened s h a) c (λ p n q (e, g, r) f. cloned-next c p n e g r q f)
 
-  pub unshare-next : (c : ℕ) → After h (Unshare c) text list (unshareOf s c)
+  pub unshare-next : (c : ℕ) → After h (Unshare c) text list (unshareOf by s c)
   unshare-next c =
-      unshare-case s (After h (Unshare c) text list) (λ e i. nothing-happened s h a) c (λ p n (e, g, r). unshared-next c p n e g r)
+      unshare-case by s (After h (Unshare c) text list) (λ e i. nothing-happened s h a) c (λ p n (e, g, r). unshared-next c p n e g r)
 
   -- ---- setns: who holds a capability in a namespace is above it
   reaches : (own euid : ℕ) (mine : Bool) (k n : ℕ) → holdsIn s own euid mine k n ≡ true → IsUnder h own n
@@ -172,4 +173,4 @@ module _ (s : State) (h : List Event) (a : Agreed s h) (d : SoundAt h) (text lis
 
   pub setns-next : (c name : ℕ) → After h (Setns c name) text list (setnsOf s c name)
   setns-next c name =
-      setns-case s (After h (Setns c name) text list) (λ e i. nothing-happened s h a) c name (λ p n e f t. joined-next c name p n e f t)
+      setns-case by s (After h (Setns c name) text list) (λ e i. nothing-happened s h a) c name (λ p n e f t. joined-next c name p n e f t)

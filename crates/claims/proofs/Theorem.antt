@@ -12,6 +12,7 @@ use Rattle.records.specs.declared.Kind.{Kind}
 use Rattle.tables.specs.Tables.{State, initialTables}
 use Rattle.tables.specs.Find.{processNamed, namespaceNamed}
 use Rattle.tables.specs.Reply.{Reply, id, unmapped}
+use Rattle.hierarchy.specs.Walks.{Translation}
 use Rattle.credentials.specs.Calls.{turned, translated, translateReply}
 use Rattle.credentials.specs.declared.translate.Way.{Way}
 use Rattle.credentials.specs.declared.translate.Way.the-variants.{Out, Back}
@@ -20,18 +21,18 @@ use Rattle.calls.specs.declared.Call.the-variants.{Fork, Clone, Unshare, Setns,
 use Rattle.calls.specs.Calls.{Request, answerBy, answerOf}
 use Rattle.claims.specs.Events.{Event}
 use Rattle.claims.specs.Words.{placeOf, parentOf, levelOf, linesOf}
-use Rattle.claims.specs.Translation.{Pairs, top, through}
+use Rattle.claims.specs.Translation.{Pairs, top, through, byLevels}
 use Rattle.claims.specs.TopLevel.{TopLevel, IsUnder, OutOf, Stands, OnParentSide}
 use Rattle.claims.specs.History.{Entry, runFrom, historyFrom, run, history, AllSmall, CallFits, Fits, AllFit, happenedBy, events}
-use Rattle.claims.specs.Agreement.{Agreed}
 use Rattle.claims.specs.Holds.{Answers, TranslatesTo, TranslatesBy, Translates, Holds}
+use Rattle.claims.proofs.Matching.{Matched, agreed}
 use Rattle.claims.proofs.Sound.{deep}
 use Rattle.claims.proofs.Levels.{out-is, is-out, back-is, is-back, out-once, back-once, one-to-one, out-back, back-out, passes}
 use Rattle.claims.proofs.Allowed.{Valid, SoundAt, sound}
 use Rattle.claims.proofs.Stays.{stays, still-top}
 use Rattle.claims.proofs.Carried.{carried}
 use Rattle.claims.proofs.Stores.{space-named}
-use Rattle.claims.proofs.Translating.{LiftsAt, lifts, stands-agrees, returns-agrees}
+use Rattle.claims.proofs.Translating.{byHistory, levels-history}
 use Rattle.claims.proofs.Steps.{Next, nothing-happened, fork-next, clone-next, unshare-next, setns-next}
 use Rattle.claims.proofs.Cases.{found-case}
 use Rattle.claims.proofs.FileSteps.{write-map-next, write-setgroups-next}
@@ -39,22 +40,22 @@ use Rattle.claims.proofs.IdSteps.{set-ids-next, set-groups-next, drop-n
 use Rattle.claims.proofs.Start.{start-agrees}
 
 -- ---- one call
-module _ (s : State) (h : List Event) (a : Agreed s h) (d : SoundAt h) (u : LiftsAt h) (text list buffer : List ℕ) where
+module _ (by : Translation) (s : State) (h : List Event) (a : Matched s h) (d : SoundAt h) (u : by ≡ byHistory h) (text list buffer : List ℕ) where
   -- its tables agree with the history that it lengthens, and it was allowed
-  call-next : (c : Call) → CallFits c → AllSmall list → Next h (happenedBy c text list (answerBy s c text list buffer .reply)) (answerBy s c text list buffer .tables)
+  call-next : (c : Call) → CallFits c → AllSmall list → Next h (happenedBy c text list (answerBy by s c text list buffer .reply)) (answerBy by s c text list buffer .tables)
   unfolding answerBy
-  call-next (Fork c) f l = fork-next s h a d text list c
-  call-next (Clone c) f l = clone-next s h a d text list c
-  call-next (Unshare c) f l = unshare-next s h a d text list c
-  call-next (Setns c n) f l = setns-next s h a d text list c n
-  call-next (WriteMap k c p) f l = write-map-next s h a d text list k c p
-  call-next (WriteSetgroups c p) f l = write-setgroups-next s h a d text list c p
+  call-next (Fork c) f l = fork-next by s h a d text list c
+  call-next (Clone c) f l = clone-next by s h a d text list c
+  call-next (Unshare c) f l = unshare-next by s h a d text list c
+  call-next (Setns c n) f l = setns-next by s h a d text list c n
+  call-next (WriteMap k c p) f l = write-map-next by s h a d text list k c p
+  call-next (WriteSetgroups c p) f l = write-setgroups-next by s h a d text list c p
   call-next (ReadMap k c p) f l = nothing-happened s h a
   call-next (ReadSetgroups c p) f l = nothing-happened s h a
-  call-next (SetIds k c i) f l = set-ids-next s h a d u text list k c i (f .0) (f .1) (f .2)
-  call-next (SetGroups c) f l = set-groups-next s h a d u text list c l
+  call-next (SetIds k c i) f l = set-ids-next by s h a u text list k c i (f .0) (f .1) (f .2)
+  call-next (SetGroups c) f l = set-groups-next by s h a u text list c l
   call-next (Capable c n number) f l = nothing-happened s h a
-  call-next (Drop c p e) f l = drop-next s h a d u text list c p e
+  call-next (Drop c p e) f l = drop-next by s h a u text list c p e
   call-next (OwnIdsOf c) f l = nothing-happened s h a
   call-next (Translate k w c n x) f l = nothing-happened s h a
 
@@ -71,27 +72,27 @@ answers (Id x) R f r = (
 answers Unmapped R f r =
     ((λ y. ((λ e. absurd (no-reply (sym e))), (λ q. absurd (two-answers (f y .1 q))))), ((λ e y q. two-answers (f y .1 q)), (λ g. refl)))
 
-module _ (s : State) (h : List Event) (a : Agreed s h) (d : SoundAt h) (u : LiftsAt h) where
+module _ (by : Translation) (s : State) (h : List Event) (a : Matched s h) (d : SoundAt h) (u : by ≡ byHistory h) where
   -- what the tables translate to is what the history does
-  pub by-history : (k : Kind) (w : Way) (n x : ℕ) → x < 2 ^ 32 → (y : ℕ) → (turned s k w n x ≡ Id y) ↔ TranslatesTo h k w n x y
+  pub by-history : (k : Kind) (w : Way) (n x : ℕ) → x < 2 ^ 32 → (y : ℕ) → (turned by k w n x ≡ Id y) ↔ TranslatesTo h k w n x y
   by-history k Out n x small y = (
-    (λ e. out-is (parentOf h) (linesOf k h) (d .good k) (levelOf h n) n x y small (sym (stands-agrees s h a d u k n x) ∙ e)),
-    (λ o. stands-agrees s h a d u k n x ∙ is-out (parentOf h) (linesOf k h) (d .good k) (levelOf h) (deep _ _ _ _ _ _ d k) (levelOf h n) n x y (omega arith) o),
+    (λ e. out-is (parentOf h) (linesOf k h) (d .good k) (levelOf h n) n x y small (sym ((λ i. u i .out k n x)) ∙ e)),
+    (λ o. (λ i. u i .out k n x) ∙ is-out (parentOf h) (linesOf k h) (d .good k) (levelOf h) (deep _ _ _ _ _ _ d k) (levelOf h n) n x y (omega arith) o),
   )
   by-history k Back n x small y = (
-    (λ e. back-is (parentOf h) (linesOf k h) (d .good k) (levelOf h n) n x y small (sym (returns-agrees s h a d u k n x small) ∙ e)),
-    (λ o. returns-agrees s h a d u k n x small ∙ is-back (parentOf h) (linesOf k h) (d .good k) (levelOf h) (deep _ _ _ _ _ _ d k) (levelOf h n) n x y (omega arith) o),
+    (λ e. back-is (parentOf h) (linesOf k h) (d .good k) (levelOf h n) n x y small (sym ((λ i. u i .back k n x)) ∙ e)),
+    (λ o. (λ i. u i .back k n x) ∙ is-back (parentOf h) (linesOf k h) (d .good k) (levelOf h) (deep _ _ _ _ _ _ d k) (levelOf h n) n x y (omega arith) o),
   )
 
-  translate-answers : (k : Kind) (w : Way) (c name x : ℕ) → x < 2 ^ 32 → Answers (translateReply s k w c name x) (TranslatesTo h k w name x)
+  translate-answers : (k : Kind) (w : Way) (c name x : ℕ) → x < 2 ^ 32 → Answers (translateReply by s k w c name x) (TranslatesTo h k w name x)
   unfolding translateReply
   translate-answers k w c name x small =
       found-case (λ (r : Reply). Answers r (TranslatesTo h k w name x)) (processNamed s c) (λ t. absurd (true≢false t)) (λ i e.
       found-case (λ (r : Reply). Answers r (TranslatesTo h k w name x)) (namespaceNamed s name) (λ t. absurd (true≢false t)) (λ n f.
-      subst (λ (m : ℕ). Answers (translated (turned s k w n x)) (TranslatesTo h k w m x)) (sym (space-named s name n f .0))
-      (answers (turned s k w n x) (TranslatesTo h k w n x) (by-history k w n x small))))
+      subst (λ (m : ℕ). Answers (translated (turned by k w n x)) (TranslatesTo h k w m x)) (sym (space-named s name n f .0))
+      (answers (turned by k w n x) (TranslatesTo h k w n x) (by-history k w n x small))))
 
-  call-translates : (c : Call) (text list buffer : List ℕ) → CallFits c → TranslatesBy h c (answerBy s c text list buffer .reply)
+  call-translates : (c : Call) (text list buffer : List ℕ) → CallFits c → TranslatesBy h c (answerBy by s c text list buffer .reply)
   unfolding answerBy
   call-translates (Fork c) text list buffer f = tt
   call-translates (Clone c) text list buffer f = tt
@@ -115,30 +116,30 @@ AllTranslate (e ∷ h) = Translates (events h) e × AllTranslate h
 
 -- tables that a list of calls leaves, with its history
 pub record Reached (s : State) (h : List Entry) : Type 0 where
-  pub agree : Agreed s (events h)
+  pub agree : Matched s (events h)
   pub valid : Valid (events h)
   all-translate : AllTranslate h
 
-start : Reached initialTables []
+pub start : Reached initialTables []
 unfolding Valid AllTranslate
 start = record { agree = start-agrees; valid = tt; all-translate = tt }
 
-step : (s : State) (h : List Entry) (r : Request) → Fits r → Reached s h → Reached (answerOf s r .tables) (record { request = r; reply = answerOf s r .reply } ∷ h)
+pub step : (s : State) (h : List Entry) (r : Request) → Fits r → Reached s h → Reached (answerOf (byLevels s) s r .tables) (record { request = r; reply = answerOf (byLevels s) s r .reply } ∷ h)
 unfolding Valid AllTranslate
 step s h r f a =
     let d = sound (events h) (a .valid) in
-    let o = lifts (events h) (a .valid) in
-    let n = call-next s (events h) (a .agree) d o (r .text) (r .list) (r .buffer) (r .call) (f .0) (f .1) in
+    let o = levels-history s (events h) (a .agree) d in
+    let n = call-next (byLevels s) s (events h) (a .agree) d o (r .text) (r .list) (r .buffer) (r .call) (f .0) (f .1) in
     record {
       agree = n .agree;
       valid = (n .allowed, a .valid);
-      all-translate = (call-translates s (events h) (a .agree) d o (r .call) (r .text) (r .list) (r .buffer) (f .0), a .all-translate);
+      all-translate = (call-translates (byLevels s) s (events h) (a .agree) d o (r .call) (r .text) (r .list) (r .buffer) (f .0), a .all-translate);
     }
 
-steps : (s : State) (h : List Entry) (rs : List Request) → AllFit rs → Reached s h → Reached (runFrom s rs) (historyFrom s h rs)
+steps : (s : State) (h : List Entry) (rs : List Request) → AllFit rs → Reached s h → Reached (runFrom byLevels s rs) (historyFrom byLevels s h rs)
 unfolding AllFit runFrom historyFrom
 steps s h [] f a = a
-steps s h (r ∷ rs) f a = steps (answerOf s r .tables) (record { request = r; reply = answerOf s r .reply } ∷ h) rs (f .1) (step s h r (f .0) a)
+steps s h (r ∷ rs) f a = steps (answerOf (byLevels s) s r .tables) (record { request = r; reply = answerOf (byLevels s) s r .reply } ∷ h) rs (f .1) (step s h r (f .0) a)
 
 pub reached : (rs : List Request) → AllFit rs → Reached (run rs) (history rs)
 reached rs f = steps initialTables [] rs f start
@@ -173,7 +174,7 @@ theorem rs f =
     let r = reached rs f in
     let d = sound h (r .valid) in
     record {
-      tables-agree = r .agree;
+      tables-agree = agreed (run rs) h (r .agree);
       numbered = d .no-zero;
       translates = λ new old e q. some-translate new old e (subst AllTranslate q (r .all-translate));
       looked-up = λ k n x y small. (

@@ -1,26 +1,32 @@
 -- Translation by the tables is translation by the history, level by level. Assumes nothing.
 use Prim.Native.Nat.{ℕ, zero, suc, _<_, _%_, _^_}
 use mathlib.Core.Path.{_≡_, refl, sym, ap, _∙_}
-use mathlib.Core.Bool.{cond}
-use mathlib.Core.List.{List, [], _∷_}
+use mathlib.Core.Bool.{true, cond}
+use mathlib.Core.List.{List, [], _∷_, map}
 use mathlib.Core.Option.{none, some}
 use native.Mathlib.Omega.{arith}
 use lib.Dec.{eqb}
 use borrow.Author.Tests.{eq-eqb, ne-eqb, eqb-true, eqb-false}
 use Rattle.idmap.specs.declared.Line.{Line}
 use Rattle.idmap.specs.declared.Translated.{Translated}
-use Rattle.idmap.specs.Lookup.{out, thenId, back}
-use Rattle.idmap.specs.Good.{goodOf, boundedOf, fitsOf, allApart}
+use Rattle.idmap.specs.declared.Translated.the-variants.{Unmapped}
+use Rattle.idmap.specs.Lookup.{out, thenId, flip, back}
+use Rattle.idmap.specs.Good.{noId, goodOf, boundedOf, fitsOf, allApart}
 use Rattle.idmap.proofs.Translation.{two-answers}
 use Rattle.lifted_map.proofs.Composition.{out-low}
 use Rattle.records.specs.declared.Kind.{Kind}
-use Rattle.tables.specs.Tables.{State, fixedLine}
-use Rattle.hierarchy.specs.Walks.{itself, outIn, toKernelBy, toKernel, backIn, fromKernelBy, fromKernel}
+use Rattle.records.specs.Records.{mapIn}
+use Rattle.records.specs.Records.{linesOf as mapLinesOf}
+use Rattle.tables.specs.Tables.{State, namespaceAt, fixedLine}
+use Rattle.hierarchy.specs.Walks.{Translation, heightOf, itself}
+use Rattle.hierarchy.specs.Lifted.{outIn, toKernelBy, toKernel, backIn, fromKernelBy, fromKernel, byLiftedMaps}
 use Rattle.prelude.proofs.Tests.{by-test}
+use Rattle.claims.specs.Translation.{byLevels, outBy, backBy}
 use Rattle.claims.specs.Events.{Event, other, forked, cloned, unshared, joined, mapped, changed, grouped}
-use Rattle.claims.specs.Words.{isNamespace, placeOf, parentOf, levelOf, mapOf, liftOf, linesOf, standsFor}
-use Rattle.claims.specs.Translation.{outBy, backBy}
-use Rattle.claims.specs.Agreement.{Agreed}
+use Rattle.claims.specs.Words.{isNamespace, placeOf, parentOf, levelOf, mapOf, orNone, linesOf, standsFor}
+use Rattle.claims.proofs.Matching.{Matched, liftOf}
+use Rattle.claims.proofs.Pairs.{back-pairs, parent-small}
+use Rattle.claims.proofs.Agree.{lines-of}
 use Rattle.claims.proofs.Sound.{deep}
 use Rattle.claims.proofs.Levels.{by-translated, out-is, is-out, back-is, is-back, out-back, back-out, back-small}
 use Rattle.claims.proofs.Allowed.{Allowed, Valid, SoundAt, sound}
@@ -65,13 +71,46 @@ unfolding outBy
 low-out up lines zero n x z = rw (ne-eqb n 0 z)
 low-out up lines (suc k) n x z = rw (ne-eqb n 0 z, out-low (lines n) x)
 
+-- the ID 'no ID' is in no line
+no-back : (ls : List Line) → goodOf ls ≡ true → back ls noId ≡ Unmapped
+no-back ls g =
+    by-translated (back ls noId)
+    (λ x e. let p = parent-small ls x noId g (back-pairs ls x noId (omega arith) g e) in absurd (omega arith))
+    (λ e. e)
+
+-- so that a kernel ID comes back through the first map as its low 32 bits do
+first-back : (ls : List Line) (y : ℕ) → goodOf ls ≡ true → thenId (itself (y % 2 ^ 32)) (λ z. back ls z) ≡ thenId (itself y) (λ z. back ls z)
+first-back ls y g =
+    by-test (eqb (y % 2 ^ 32) noId)
+    (λ t.
+    let same : back ls y ≡ Unmapped = sym (out-low (map flip ls) y) ∙ ap (back ls) (eqb-true (y % 2 ^ 32) noId t) ∙ no-back ls g in
+    by-test (eqb y noId) (λ u. rw (t, u)) (λ u. rw (t, u) (sym same)))
+    (λ t.
+    let f = eqb-false (y % 2 ^ 32) noId t in
+    rw (t, ne-eqb y noId (λ e. f (rw e))) (out-low (map flip ls) y))
+
+root-back : (up : ℕ → ℕ) (lines : ℕ → List Line) (k n y : ℕ) → n ≡ 0 → backBy up lines k n y ≡ itself y
+unfolding backBy
+root-back up lines zero n y z = rw (eq-eqb n 0 z)
+root-back up lines (suc k) n y z = rw (eq-eqb n 0 z)
+
+low-back : (up : ℕ → ℕ) (lines : ℕ → List Line) → ((n : ℕ) → goodOf (lines n) ≡ true) → (k n y : ℕ) → (n ≡ 0 → ⊥) → backBy up lines k n (y % 2 ^ 32) ≡ backBy up lines k n y
+unfolding backBy
+low-back up lines good zero n y z = rw (ne-eqb n 0 z)
+low-back up lines good (suc k) n y z =
+    by-test (eqb (up n) 0)
+    (λ t.
+    let u = eqb-true (up n) 0 t in
+    rw (ne-eqb n 0 z, root-back up lines k (up n) y u, root-back up lines k (up n) (y % 2 ^ 32) u) (first-back (lines n) y (good n)))
+    (λ t. rw (ne-eqb n 0 z, low-back up lines good k (up n) y (eqb-false (up n) 0 t)))
+
 -- an ID of the initial namespace stands for itself
 root-out : (up : ℕ → ℕ) (lines : ℕ → List Line) (k n x : ℕ) → n ≡ 0 → outBy up lines k n x ≡ itself x
 unfolding outBy
 root-out up lines zero n x z = rw (eq-eqb n 0 z)
 root-out up lines (suc k) n x z = rw (eq-eqb n 0 z)
 
-module _ (s : State) (h : List Event) (a : Agreed s h) (d : SoundAt h) (o : LiftsAt h) (k : Kind) where
+module _ (s : State) (h : List Event) (a : Matched s h) (d : SoundAt h) (o : LiftsAt h) (k : Kind) where
   abbrev lift : ℕ → List Line
   lift n = liftOf k h n .lines
 
@@ -154,5 +193,41 @@ module _ (s : State) (h : List Event) (a : Agreed s h) (d : SoundAt h) (o : Lift
       let z = eqb-false n 0 t in
       to-agrees n x ∙ sym (low-out base lift 32 n x z) ∙ lift-stands n (x % 2 ^ 32) (omega arith) ∙ low-out (parentOf h) (linesOf k h) (levelOf h n) n x z)
 
-  pub returns-agrees : (n y : ℕ) → y < 2 ^ 32 → fromKernel s k n y ≡ backBy (parentOf h) (linesOf k h) (levelOf h n) n y
-  returns-agrees n y small = from-agrees n y ∙ lift-returns n y small
+  pub returns-agrees : (n y : ℕ) → fromKernel s k n y ≡ backBy (parentOf h) (linesOf k h) (levelOf h n) n y
+  returns-agrees n y =
+      by-test (eqb n 0)
+      (λ t.
+      let z = eqb-true n 0 t in
+      from-agrees n y ∙ root-back base lift 32 n y z ∙ sym (root-back (parentOf h) (linesOf k h) (levelOf h n) n y z))
+      (λ t.
+      let z = eqb-false n 0 t in
+      from-agrees n y ∙ sym (low-back base lift (o .good k) 32 n y z) ∙ lift-returns n (y % 2 ^ 32) (omega arith) ∙ low-back (parentOf h) (linesOf k h) (d .good k) (levelOf h n) n y z)
+
+-- ---- the translation of a history, which is the level by level one of the tables
+abbrev pub byHistory : List Event → Translation
+byHistory h = record {
+  out = λ (k : Kind) (n x : ℕ). standsFor k h n x;
+  back = λ (k : Kind) (n y : ℕ). backBy (parentOf h) (linesOf k h) (levelOf h n) n y;
+}
+
+module _ (s : State) (h : List Event) (a : Matched s h) (d : SoundAt h) where
+  map-agrees : (k : Kind) (n : ℕ) → mapLinesOf (mapIn k (namespaceAt s n)) ≡ linesOf k h n
+  map-agrees k n = sym (lines-of (mapIn k (namespaceAt s n))) ∙ ap orNone (a .namespace-map k n)
+
+  height-agrees : (n : ℕ) → heightOf s n ≡ levelOf h n
+  unfolding heightOf
+  height-agrees n = let b = d .shallow n in let e = a .namespace-level n in omega arith
+
+  pub levels-history : byLevels s ≡ byHistory h
+  unfolding byLevels
+  levels-history = λ i. record {
+    out = λ (k : Kind) (n x : ℕ). outBy (λ (m : ℕ). a .namespace-parent m i) (λ (m : ℕ). map-agrees k m i) (height-agrees n i) n x;
+    back = λ (k : Kind) (n y : ℕ). backBy (λ (m : ℕ). a .namespace-parent m i) (λ (m : ℕ). map-agrees k m i) (height-agrees n i) n y;
+  }
+
+  -- the translation by lifted maps is the level by level one: out and back, for every kind, namespace and number
+  pub same-translation : LiftsAt h → byLiftedMaps s ≡ byLevels s
+  unfolding byLiftedMaps
+  same-translation o =
+      (λ i. record { out = λ (k : Kind) (n x : ℕ). stands-agrees s h a d o k n x i; back = λ (k : Kind) (n y : ℕ). returns-agrees s h a d o k n y i })
+      ∙ sym levels-history

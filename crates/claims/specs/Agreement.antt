@@ -6,7 +6,6 @@ use mathlib.Core.List.{List, []}
 use mathlib.Core.Option.{Option, none, some}
 use lib.ListN.{length, take}
 use Rattle.idmap.specs.declared.Line.{Line}
-use Rattle.lifted_map.specs.Lift.{Lifted}
 use Rattle.records.specs.declared.Kind.{Kind}
 use Rattle.records.specs.declared.Kind.the-variants.{User, Group}
 use Rattle.records.specs.declared.Process.{Process}
@@ -14,9 +13,9 @@ use Rattle.records.specs.declared.MapState.{MapState}
 use Rattle.records.specs.declared.MapState.the-variants.{Unwritten, Written}
 use Rattle.records.specs.declared.IdMap.{IdMap}
 use Rattle.records.specs.Records.{idsIn, mapIn}
-use Rattle.tables.specs.Tables.{State, processAt, namespaceAt, liftedMaps, liftedAt}
+use Rattle.tables.specs.Tables.{State, processAt, namespaceAt}
 use Rattle.claims.specs.Events.{Event}
-use Rattle.claims.specs.Words.{Held, isProcess, isNamespace, placeOf, parentOf, levelOf, mapOf, liftOf, heldOf}
+use Rattle.claims.specs.Words.{Held, isProcess, isNamespace, placeOf, parentOf, levelOf, mapOf, heldOf}
 
 -- the IDs of a kind in a process's record; only groups have supplementary ones
 abbrev pub moreIn : Kind → Process → List ℕ
@@ -36,11 +35,10 @@ writtenIn m = linesIf (m .state) (m .lines)
 
 -- tables of 128 places for processes and 64 for namespaces, in which process i + 1 stands at place i and namespace n at place n: exactly those
 -- are live that are processes and namespaces, each process has its namespace and its IDs of both kinds, each namespace its parent, its level and
--- its maps and lifted maps of both kinds
-pub record Agrees (s : State) (isP isN : ℕ → Bool) (place up level : ℕ → ℕ) (maps : Kind → ℕ → Option (List Line)) (lifted : Kind → ℕ → Lifted) (carries : Kind → ℕ → Held) : Type 0 where
+-- its maps of both kinds
+pub record Agrees (s : State) (isP isN : ℕ → Bool) (place up level : ℕ → ℕ) (maps : Kind → ℕ → Option (List Line)) (carries : Kind → ℕ → Held) : Type 0 where
   pub process-places : length (s .processes) ≡ 128
   pub namespace-places : length (s .namespaces) ≡ 64
-  pub lifted-places : (k : Kind) → length (liftedMaps k s) ≡ 64
   pub process-live : (i : ℕ) → processAt s i .live ≡ isP (suc i)
   pub process-place : (i : ℕ) → processAt s i .namespace ≡ place (suc i)
   pub process-ids : (k : Kind) (i : ℕ) → heldIn k (processAt s i) ≡ carries k (suc i)
@@ -48,9 +46,8 @@ pub record Agrees (s : State) (isP isN : ℕ → Bool) (place up level : ℕ →
   pub namespace-parent : (n : ℕ) → namespaceAt s n .parent ≡ up n
   pub namespace-level : (n : ℕ) → namespaceAt s n .level ≡ level n
   pub namespace-map : (k : Kind) (n : ℕ) → writtenIn (mapIn k (namespaceAt s n)) ≡ maps k n
-  pub namespace-lifted : (k : Kind) (n : ℕ) → liftedAt s k n ≡ lifted k n
 
 -- the tables agree with a list of events
 abbrev pub Agreed : State → List Event → Type 0
 Agreed s h =
-    Agrees s (isProcess h) (isNamespace h) (placeOf h) (parentOf h) (levelOf h) (λ (k : Kind). mapOf k h) (λ (k : Kind). liftOf k h) (λ (k : Kind). heldOf k h)
+    Agrees s (isProcess h) (isNamespace h) (placeOf h) (parentOf h) (levelOf h) (λ (k : Kind). mapOf k h) (λ (k : Kind). heldOf k h)

@@ -10,8 +10,9 @@ use Rattle.idmap.specs.declared.Translated.the-variants.{Id}
 use Rattle.records.specs.declared.Kind.{Kind}
 use Rattle.records.specs.declared.Process.{Process}
 use Rattle.tables.specs.Tables.{State, processAt, namespaceAt}
-use Rattle.hierarchy.specs.Walks.{toKernel, fromKernel, capableIn}
+use Rattle.hierarchy.specs.Walks.{capableIn}
 use Rattle.calls.specs.Calls.{Request}
+use Rattle.claims.specs.Translation.{byLevels}
 use Rattle.claims.specs.TopLevel.{OutOf, BackOf}
 use Rattle.claims.specs.History.{run, history, events}
 
@@ -29,8 +30,8 @@ pub record Bounds (rs : List Request) : Type 0 where
   pub walk : (i n c : ℕ) → processAt (run rs) i .live ≡ true → namespaceAt (run rs) n .live ≡ true
       → (capableIn (run rs) (processAt (run rs) i) n c ≡ true) ↔ HoldsCapability (run rs) (processAt (run rs) i) c n
   -- translation is the level by level one
-  pub out : (k : Kind) (n x y : ℕ) → x < 2 ^ 32 → (toKernel (run rs) k n x ≡ Id y) ↔ OutOf k (events (history rs)) n x y
-  pub back : (k : Kind) (n y x : ℕ) → y < 2 ^ 32 → (fromKernel (run rs) k n y ≡ Id x) ↔ BackOf k (events (history rs)) n y x
+  pub out : (k : Kind) (n x y : ℕ) → x < 2 ^ 32 → (byLevels (run rs) .out k n x ≡ Id y) ↔ OutOf k (events (history rs)) n x y
+  pub back : (k : Kind) (n y x : ℕ) → y < 2 ^ 32 → (byLevels (run rs) .back k n y ≡ Id x) ↔ BackOf k (events (history rs)) n y x
   -- every live record is in range, and what it names is live
   pub process-in-range : (i : ℕ) → processAt (run rs) i .live ≡ true → i < 128
   pub namespace-in-range : (n : ℕ) → namespaceAt (run rs) n .live ≡ true → n < 64

@@ -3,9 +3,11 @@ use Prim.Native.Nat.{ℕ, _<_, _^_}
 use mathlib.Core.List.{List, [], _∷_, map}
 use Rattle.tables.specs.Tables.{State, initialTables}
 use Rattle.tables.specs.Reply.{Reply, refused, done, child, childIn, newNamespace, yes′, no′, bytes, ids, id, unmapped}
+use Rattle.hierarchy.specs.Walks.{Translation}
 use Rattle.calls.specs.declared.Call.{Call}
 use Rattle.calls.specs.declared.Call.the-variants.{Fork, Clone, Unshare, Setns, WriteMap, WriteSetgroups, ReadMap, ReadSetgroups, SetIds, SetGroups, Capable, Drop, OwnIdsOf, Translate}
 use Rattle.calls.specs.Calls.{Request, answerOf}
+use Rattle.claims.specs.Translation.{byLevels}
 use Rattle.claims.specs.Events.{Event, other, forked, cloned, unshared, joined, mapped, changed, grouped}
 
 -- ---- the run
@@ -14,23 +16,35 @@ pub record Entry : Type 0 where
   pub request : Request
   pub reply : Reply
 
--- the first call gets the tables given, each other one those that the call before it left, refused or not. `answerOf` is what the promise of
--- the entry point `calls::answer` cites
-unfoldable pub runFrom : State → List Request → State
-runFrom s [] = s
-runFrom s (r ∷ rs) = runFrom (answerOf s r .tables) rs
+-- what a call answers, and the buffer that it leaves
+pub record Answered : Type 0 where
+  pub reply : Reply
+  pub buffer : List ℕ
 
--- the calls with their answers, newest first, after those that were there
-unfoldable pub historyFrom : State → List Entry → List Request → List Entry
-historyFrom s h [] = h
-historyFrom s h (r ∷ rs) = historyFrom (answerOf s r .tables) (record { request = r; reply = answerOf s r .reply } ∷ h) rs
+-- by: how IDs are translated, at each state of the tables. The first call gets the tables given, each other one those that the call before it left,
+-- refused or not
+module _ (by : State → Translation) where
+  unfoldable pub runFrom : State → List Request → State
+  runFrom s [] = s
+  runFrom s (r ∷ rs) = runFrom (answerOf (by s) s r .tables) rs
 
--- the tables after a list of calls from the fresh start, and the list's history
+  -- the calls with their answers, newest first, after those that were there
+  unfoldable pub historyFrom : State → List Entry → List Request → List Entry
+  historyFrom s h [] = h
+  historyFrom s h (r ∷ rs) = historyFrom (answerOf (by s) s r .tables) (record { request = r; reply = answerOf (by s) s r .reply } ∷ h) rs
+
+  -- of each call in order what it answers, and the buffer that it leaves
+  unfoldable pub answersFrom : State → List Request → List Answered
+  answersFrom s [] = []
+  answersFrom s (r ∷ rs) = record { reply = answerOf (by s) s r .reply; buffer = answerOf (by s) s r .buffer } ∷ answersFrom (answerOf (by s) s r .tables) rs
+
+-- the tables after a list of calls from the fresh start, and the list's history, with document 01's translation. That the code's runs have these
+-- tables and this history is `executions` of proofs/Same.antt
 abbrev pub run : List Request → State
-run rs = runFrom initialTables rs
+run rs = runFrom byLevels initialTables rs
 
 abbrev pub history : List Request → List Entry
-history rs = historyFrom initialTables [] rs
+history rs = historyFrom byLevels initialTables [] rs
 
 -- ---- the numbers of a call fit the types of the interface: its IDs are 32-bit, as document 01 says
 unfoldable pub AllSmall : List ℕ → Type 0

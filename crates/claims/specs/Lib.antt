@@ -7,4 +7,5 @@ pub mod Agreement
 pub mod Holds
 pub mod Bounds
 pub mod Refusals
+pub mod Same
 pub mod Scenarios

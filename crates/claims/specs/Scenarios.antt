@@ -22,8 +22,9 @@ use Rattle.tables.specs.Reply.{Reply, refused, done, child, newNamespace, yes�
 use Rattle.credentials.specs.declared.translate.Way.the-variants.{Out}
 use Rattle.calls.specs.declared.Call.{Call}
 use Rattle.calls.specs.declared.Call.the-variants.{Fork, Unshare, WriteMap, WriteSetgroups, ReadMap, SetIds, SetGroups, Capable, Translate}
-use Rattle.calls.specs.Calls.{Request, answerOf}
-use Rattle.claims.specs.History.{run}
+use Rattle.calls.specs.Calls.{Request}
+use Rattle.claims.specs.Translation.{byLevels}
+use Rattle.claims.specs.History.{Answered, answersFrom, run}
 
 -- ---- requests
 -- the bytes of a text. Each text here is ASCII, in which a character's code is its byte
@@ -207,26 +208,16 @@ scenarios =
     } ∷ [])
 
 -- ---- what is said of the table
--- what a call answers, and the buffer that it leaves
-pub record Answered : Type 0 where
-  pub reply : Reply
-  pub buffer : List ℕ
-
 -- what comes out of calls: of each call in order what it answers, and the tables at the end
 pub record Result : Type 0 where
   pub answers : List Answered
   pub tables : State
 
--- what is answered on the way of `runFrom`: the same steps, by the definition that the promise of `calls::answer` cites
-unfoldable pub answersFrom : State → List Request → List Answered
-answersFrom s [] = []
-answersFrom s (r ∷ rs) = record { reply = answerOf s r .reply; buffer = answerOf s r .buffer } ∷ answersFrom (answerOf s r .tables) rs
-
 abbrev pub requests : Scenario → List Request
 requests c = map (λ (row : Row). row .request) (c .rows)
 
 abbrev pub found : Scenario → Result
-found c = record { answers = answersFrom initialTables (requests c); tables = run (requests c) }
+found c = record { answers = answersFrom byLevels initialTables (requests c); tables = run (requests c) }
 
 -- of the 128 places for processes and the 64 for namespaces the others are free. No namespace is deeper than level 1, so a map is lifted as it stands
 abbrev pub expected : Scenario → Result

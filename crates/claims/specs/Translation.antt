@@ -1,4 +1,4 @@
--- Translation level by level, as document 01 has it, over any parents and any lines. Assumes nothing.
+-- Translation level by level, as document 01 has it: over any parents and any lines, and `byLevels` over those of the tables. Assumes nothing.
 use Prim.Native.Nat.{ℕ, zero, suc, _+_, _<_}
 use mathlib.Core.Path.{_≡_}
 use mathlib.Core.Bool.{cond}
@@ -11,7 +11,10 @@ use Rattle.idmap.specs.declared.Translated.the-variants.{Unmapped}
 use Rattle.idmap.specs.Line.{noLine}
 use Rattle.idmap.specs.Lookup.{out, thenId, back}
 use Rattle.idmap.specs.Good.{noId}
-use Rattle.hierarchy.specs.Walks.{itself}
+use Rattle.records.specs.declared.Kind.{Kind}
+use Rattle.records.specs.Records.{mapIn, linesOf}
+use Rattle.tables.specs.Tables.{State, namespaceAt}
+use Rattle.hierarchy.specs.Walks.{Translation, heightOf, itself}
 
 -- an ID x inside and an ID z on the parent side belong together: some line has both, at the same offset
 pub record Pairs (ls : List Line) (x z : ℕ) : Type 0 where
@@ -42,6 +45,13 @@ module _ (up : ℕ → ℕ) (lines : ℕ → List Line) where
   unfoldable pub backBy : ℕ → ℕ → ℕ → Translated
   backBy zero n y = cond (eqb n 0) (itself y) Unmapped
   backBy (suc k) n y = cond (eqb n 0) (itself y) (thenId (backBy k (up n) y) (λ z. back (lines n) z))
+
+-- document 01's translation: by the parents and the written lines that the tables have, in as many steps as the level says
+unfoldable pub byLevels : State → Translation
+byLevels s = record {
+  out = λ (kind : Kind) (n x : ℕ). outBy (λ (m : ℕ). namespaceAt s m .parent) (λ (m : ℕ). linesOf (mapIn kind (namespaceAt s m))) (heightOf s n) n x;
+  back = λ (kind : Kind) (n y : ℕ). backBy (λ (m : ℕ). namespaceAt s m .parent) (λ (m : ℕ). linesOf (mapIn kind (namespaceAt s m))) (heightOf s n) n y;
+}
 
 -- namespace n is b, or its parent is under b
 pub data Under (up : ℕ → ℕ) (b : ℕ) : ℕ → Type 0 where

@@ -11,13 +11,12 @@ use Rattle.idmap.specs.declared.Translated.the-variants.{Id}
 use Rattle.idmap.specs.Good.{noId}
 use Rattle.idmap.specs.Lookup.{orNoId}
 use Rattle.idmap.specs.Text.{mapLines}
-use Rattle.lifted_map.specs.Lift.{Lifted, liftedOf}
 use Rattle.records.specs.declared.Kind.{Kind}
 use Rattle.records.specs.declared.Kind.the-variants.{User, Group}
 use Rattle.records.specs.declared.Ids.{Ids}
-use Rattle.tables.specs.Tables.{allZero, fixedLine, noLift, fixedLift}
-use Rattle.claims.specs.Events.{Event, other, forked, cloned, unshared, joined, mapped, changed, grouped}
+use Rattle.tables.specs.Tables.{allZero, fixedLine}
 use Rattle.claims.specs.Translation.{outBy}
+use Rattle.claims.specs.Events.{Event, other, forked, cloned, unshared, joined, mapped, changed, grouped}
 
 -- p is a process: it is 1, or a fork or clone was answered with it
 unfoldable pub isProcess : List Event → ℕ → Bool
@@ -102,26 +101,6 @@ mapOf k (grouped c list ∷ h) m = mapOf k h m
 abbrev pub orNone : Option (List Line) → List Line
 orNone none = []
 orNone (some ls) = ls
-
--- the lifted map of a namespace: the lines of the map write, lifted over the parent's lifted map of that moment. Nothing here translates by it: that
--- the tables may is a law
-abbrev pub liftedBy : Lifted → ℕ → Option (List Line) → Lifted
-liftedBy above parent none = noLift
-liftedBy above parent (some ls) = liftedOf above parent ls
-
-unfoldable pub liftOf : Kind → List Event → ℕ → Lifted
-liftOf k [] m = cond (eqb m 0) fixedLift noLift
-liftOf k (other ∷ h) m = liftOf k h m
-liftOf k (forked c q ∷ h) m = liftOf k h m
-liftOf k (cloned c q n ∷ h) m = liftOf k h m
-liftOf k (unshared c n ∷ h) m = liftOf k h m
-liftOf k (joined c n ∷ h) m = liftOf k h m
-liftOf k (mapped j q text ∷ h) m =
-    cond (sameKind k j && eqb m (placeOf h q))
-    (liftedBy (liftOf k h (parentOf h (placeOf h q))) (parentOf h (placeOf h q)) (mapLines text))
-    (liftOf k h m)
-liftOf k (changed j c new ∷ h) m = liftOf k h m
-liftOf k (grouped c list ∷ h) m = liftOf k h m
 
 abbrev pub linesOf : Kind → List Event → ℕ → List Line
 linesOf k h m = orNone (mapOf k h m)

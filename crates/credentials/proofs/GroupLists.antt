@@ -27,7 +27,8 @@ use Rattle.tables.specs.declared.find.Found.the-variants.{At, Nothing}
 use Rattle.tables.specs.declared.answer.Errno.the-variants.{EPERM, ESRCH, EINVAL}
 use Rattle.tables.specs.declared.answer.Answer.the-variants.{Refused, Done}
 use Rattle.tables.proofs.Promises.{refuses, answers}
-use Rattle.hierarchy.specs.Walks.{itself, toKernel, capableIn}
+use Rattle.hierarchy.specs.Walks.{Translation, itself, capableIn}
+use Rattle.hierarchy.specs.Lifted.{toKernel, byLiftedMaps}
 use Rattle.hierarchy.specs.Batch.{eachBy, toKernelEach}
 use Rattle.hierarchy.proofs.Batches.{known-kernel}
 use Rattle.credentials.specs.declared.groups.Listed.{Listed}
@@ -51,8 +52,8 @@ module _ (s : State) (n : ℕ) where
 
   module _ (k : ℕ) where
     -- none of them is 'no ID'
-    every-group : (list : List ℕ) → allIds (map kernelOr list ++ replicate k 0) ≡ true → kernelGroups s n list ≡ some (map kernelOr list)
-    unfolding kernelGroups allOf consOf allIds
+    every-group : (list : List ℕ) → allIds (map kernelOr list ++ replicate k 0) ≡ true → kernelGroups (byLiftedMaps s) n list ≡ some (map kernelOr list)
+    unfolding kernelGroups byLiftedMaps allOf consOf allIds
     every-group [] e = refl
     every-group (x ∷ list) e =
         by-test (eqb (kernelOr x) noId)
@@ -60,8 +61,8 @@ module _ (s : State) (n : ℕ) where
         (λ t. rw (option-is x, t, every-group list (rw t at e)))
 
     -- one is
-    some-group : (list : List ℕ) → allIds (map kernelOr list ++ replicate k 0) ≡ false → kernelGroups s n list ≡ none
-    unfolding kernelGroups allOf consOf allIds
+    some-group : (list : List ℕ) → allIds (map kernelOr list ++ replicate k 0) ≡ false → kernelGroups (byLiftedMaps s) n list ≡ none
+    unfolding kernelGroups byLiftedMaps allOf consOf allIds
     some-group [] e = absurd (true≢false (sym (zeros-ids k) ∙ e))
     some-group (x ∷ list) e =
         by-test (eqb (kernelOr x) noId)
@@ -84,10 +85,10 @@ module _ (s : State) (n : ℕ) where
     unfolding groupList
     ids-are = sym (tested ∙ rw groups-are)
 
-    pub kernel-listed : t ≡ true → _≡_ {A = Listed} (record { mapped = true; groups = groups }) (listedOf (kernelGroups s n list))
+    pub kernel-listed : t ≡ true → _≡_ {A = Listed} (record { mapped = true; groups = groups }) (listedOf (kernelGroups (byLiftedMaps s) n list))
     kernel-listed e = rw (every-group (16 - length (map kernelOr list)) list (ids-are ∙ e), groups-are)
 
-    pub kernel-unlisted : (a : Listed) → t ≡ false → a ≡ listedOf none → a ≡ listedOf (kernelGroups s n list)
+    pub kernel-unlisted : (a : Listed) → t ≡ false → a ≡ listedOf none → a ≡ listedOf (kernelGroups (byLiftedMaps s) n list)
     kernel-unlisted a e q = q ∙ sym (ap listedOf (some-group (16 - length (map kernelOr list)) list (ids-are ∙ e)))
 
 -- ---- none_listed, with_list
@@ -116,51 +117,51 @@ module _ (s : State) (i : ℕ) (p : Process) (listed : Listed) where
   after-some none e t = absurd (true≢false (sym t ∙ ap (λ (a : Listed). a .mapped) e))
   after-some (some ids) e t = rw e
 
-module _ (l : List ℕ) (c : ℕ) (list : List ℕ) (r : Found) (named : r ≡ processNamed (tablesOf l) c) where
-  pub groups-nobody : r ≡ Nothing → Promise (Refused ESRCH) l l (setGroupsOf (tablesOf l) c list)
+module _ (by : Translation) (l : List ℕ) (c : ℕ) (list : List ℕ) (r : Found) (named : r ≡ processNamed (tablesOf l) c) where
+  pub groups-nobody : r ≡ Nothing → Promise (Refused ESRCH) l l (setGroupsOf by (tablesOf l) c list)
   unfolding setGroupsOf
-  groups-nobody e = refuses ESRCH l (setGroupsOf (tablesOf l) c list) (rw (← named, e))
+  groups-nobody e = refuses ESRCH l (setGroupsOf by (tablesOf l) c list) (rw (← named, e))
 
   module _ (i : ℕ) (at : r ≡ At i) (p : Process) (read : p ≡ processAt (tablesOf l) i) (t : Bool)
       (able : t ≡ capableIn (tablesOf l) p (p .namespace) 6) where
-    pub groups-incapable : t ≡ false → Promise (Refused EPERM) l l (setGroupsOf (tablesOf l) c list)
+    pub groups-incapable : t ≡ false → Promise (Refused EPERM) l l (setGroupsOf by (tablesOf l) c list)
     unfolding setGroupsOf
-    groups-incapable e = refuses EPERM l (setGroupsOf (tablesOf l) c list) (rw (← named, at, ← read, ← able, e))
+    groups-incapable e = refuses EPERM l (setGroupsOf by (tablesOf l) c list) (rw (← named, at, ← read, ← able, e))
 
     module _ (y : t ≡ true) (own : Namespace) (home : own ≡ namespaceAt (tablesOf l) (p .namespace)) (w : Bool)
         (written : w ≡ isWritten (own .groups .state)) where
-      pub groups-unwritten : w ≡ false → Promise (Refused EPERM) l l (setGroupsOf (tablesOf l) c list)
+      pub groups-unwritten : w ≡ false → Promise (Refused EPERM) l l (setGroupsOf by (tablesOf l) c list)
       unfolding setGroupsOf
-      groups-unwritten e = refuses EPERM l (setGroupsOf (tablesOf l) c list) (rw (← named, at, ← read, ← able, y, ← home, ← written, e))
+      groups-unwritten e = refuses EPERM l (setGroupsOf by (tablesOf l) c list) (rw (← named, at, ← read, ← able, y, ← home, ← written, e))
 
       module _ (yw : w ≡ true) where
-        pub groups-denied : own .deny ≡ true → Promise (Refused EPERM) l l (setGroupsOf (tablesOf l) c list)
+        pub groups-denied : own .deny ≡ true → Promise (Refused EPERM) l l (setGroupsOf by (tablesOf l) c list)
         unfolding setGroupsOf
-        groups-denied e = refuses EPERM l (setGroupsOf (tablesOf l) c list) (rw (← named, at, ← read, ← able, y, ← home, ← written, yw, e))
+        groups-denied e = refuses EPERM l (setGroupsOf by (tablesOf l) c list) (rw (← named, at, ← read, ← able, y, ← home, ← written, yw, e))
 
         module _ (allowed : own .deny ≡ false) where
-          pub groups-too-many : 16 < length list → Promise (Refused EINVAL) l l (setGroupsOf (tablesOf l) c list)
+          pub groups-too-many : 16 < length list → Promise (Refused EINVAL) l l (setGroupsOf by (tablesOf l) c list)
           unfolding setGroupsOf
           groups-too-many h =
-              refuses EINVAL l (setGroupsOf (tablesOf l) c list)
+              refuses EINVAL l (setGroupsOf by (tablesOf l) c list)
               (rw (← named, at, ← read, ← able, y, ← home, ← written, yw, allowed, lt-ltb 16 (length list) h))
 
-          module _ (h : length list ≤ 16) (listed : Listed) (got : listed ≡ listedOf (kernelGroups (tablesOf l) (p .namespace) list)) where
-            groups-listed : setGroupsOf (tablesOf l) c list
-                ≡ thenList (kernelGroups (tablesOf l) (p .namespace) list) (refuse (tablesOf l) 22) (afterList (tablesOf l) i p)
+          module _ (h : length list ≤ 16) (listed : Listed) (got : listed ≡ listedOf (kernelGroups by (p .namespace) list)) where
+            groups-listed : setGroupsOf by (tablesOf l) c list
+                ≡ thenList (kernelGroups by (p .namespace) list) (refuse (tablesOf l) 22) (afterList (tablesOf l) i p)
             unfolding setGroupsOf afterList
             groups-listed = rw (← named, at, ← read, ← able, y, ← home, ← written, yw, allowed, le-ltb 16 (length list) h)
 
-            pub groups-unmapped : listed .mapped ≡ false → Promise (Refused EINVAL) l l (setGroupsOf (tablesOf l) c list)
+            pub groups-unmapped : listed .mapped ≡ false → Promise (Refused EINVAL) l l (setGroupsOf by (tablesOf l) c list)
             groups-unmapped t =
-                refuses EINVAL l (setGroupsOf (tablesOf l) c list)
-                (after-none (tablesOf l) i p listed (kernelGroups (tablesOf l) (p .namespace) list) got t ∙ sym groups-listed)
+                refuses EINVAL l (setGroupsOf by (tablesOf l) c list)
+                (after-none (tablesOf l) i p listed (kernelGroups by (p .namespace) list) got t ∙ sym groups-listed)
 
             pub groups-done : (l′ : List ℕ) (q : Process) → listed .mapped ≡ true → q ≡ withList p (listed .groups)
-                → tablesOf l′ ≡ putProcess (tablesOf l) i q → Promise Done l l′ (setGroupsOf (tablesOf l) c list)
+                → tablesOf l′ ≡ putProcess (tablesOf l) i q → Promise Done l l′ (setGroupsOf by (tablesOf l) c list)
             groups-done l′ q t made put =
-                answers Done l l′ (setGroupsOf (tablesOf l) c list) refl
-                (rw (put, made) (after-some (tablesOf l) i p listed (kernelGroups (tablesOf l) (p .namespace) list) got t ∙ sym groups-listed))
+                answers Done l l′ (setGroupsOf by (tablesOf l) c list) refl
+                (rw (put, made) (after-some (tablesOf l) i p listed (kernelGroups by (p .namespace) list) got t ∙ sym groups-listed))
 
 pub ruleset grouping = (
   kernel-listed,

@@ -23,15 +23,17 @@ use Rattle.tables.specs.declared.find.Found.the-variants.{At, Nothing}
 use Rattle.tables.specs.declared.answer.Errno.the-variants.{EPERM, ESRCH, EINVAL}
 use Rattle.tables.specs.declared.answer.Answer.the-variants.{Refused, Done}
 use Rattle.tables.proofs.Promises.{refuses, answers}
-use Rattle.hierarchy.specs.Walks.{toKernel, capableIn}
+use Rattle.hierarchy.specs.Walks.{Translation, capableIn}
+use Rattle.hierarchy.specs.Lifted.{toKernel, byLiftedMaps}
 use Rattle.credentials.specs.Calls.{chosen, thenThree, isOneOf, allOneOf, losesAll, losesEffective, withUsers, withGroups, withIds, mayTake, setIdsOf}
 
 -- ---- an ID that is given
 module _ (s : State) (kind : Kind) (n x old : ℕ) where
-  pub chosen-old : x ≡ 4294967295 → Id old ≡ chosen s kind n x old
+  pub chosen-old : x ≡ 4294967295 → Id old ≡ chosen (byLiftedMaps s) kind n x old
   chosen-old e = rw (eq-eqb x 4294967295 e)
 
-  pub chosen-new : (r : Translated) → (x ≡ 4294967295 → ⊥) → r ≡ toKernel s kind n x → r ≡ chosen s kind n x old
+  pub chosen-new : (r : Translated) → (x ≡ 4294967295 → ⊥) → r ≡ toKernel s kind n x → r ≡ chosen (byLiftedMaps s) kind n x old
+  unfolding byLiftedMaps
   chosen-new r e q = rw (ne-eqb x 4294967295 e) q
 
 -- ---- one of three
@@ -119,10 +121,11 @@ unfolding withGroups
 groups-made p new = refl
 
 module _ (s : State) (kind : Kind) (p : Process) (new : Ids) (r : Process) where
-  pub ids-user : (zero : Translated) → kind ≡ User → zero ≡ toKernel s User (p .namespace) 0 → r ≡ withUsers zero p new → r ≡ withIds s kind p new
+  pub ids-user : (zero : Translated) → kind ≡ User → zero ≡ toKernel s User (p .namespace) 0 → r ≡ withUsers zero p new → r ≡ withIds (byLiftedMaps s) kind p new
+  unfolding byLiftedMaps
   ids-user zero k ez e = rw k (rw ez at e)
 
-  pub ids-group : kind ≡ Group → r ≡ withGroups p new → r ≡ withIds s kind p new
+  pub ids-group : kind ≡ Group → r ≡ withGroups p new → r ≡ withIds (byLiftedMaps s) kind p new
   ids-group k e = rw k e
 
 -- ---- who may
@@ -138,52 +141,52 @@ module _ (s : State) (kind : Kind) (p : Process) (new old : Ids) (number : ℕ) 
 
 -- ---- the call
 -- what follows the three kernel IDs
-afterThree : State → Kind → ℕ → Process → Ids → ℕ → ℕ → ℕ → Outcome
-afterThree s kind i p old a b d =
+afterThree : Translation → State → Kind → ℕ → Process → Ids → ℕ → ℕ → ℕ → Outcome
+afterThree by s kind i p old a b d =
     unless (mayTake s kind p (record { real = a; effective = b; saved = d }) old)
     (refuse s 1)
-    (record { reply = done; tables = putProcess s i (withIds s kind p (record { real = a; effective = b; saved = d })) })
+    (record { reply = done; tables = putProcess s i (withIds by kind p (record { real = a; effective = b; saved = d })) })
 
-module _ (l : List ℕ) (kind : Kind) (c real effective saved : ℕ) (r : Found) (named : r ≡ processNamed (tablesOf l) c) where
-  pub set-ids-nobody : r ≡ Nothing → Promise (Refused ESRCH) l l (setIdsOf (tablesOf l) kind c real effective saved)
+module _ (by : Translation) (l : List ℕ) (kind : Kind) (c real effective saved : ℕ) (r : Found) (named : r ≡ processNamed (tablesOf l) c) where
+  pub set-ids-nobody : r ≡ Nothing → Promise (Refused ESRCH) l l (setIdsOf by (tablesOf l) kind c real effective saved)
   unfolding setIdsOf
-  set-ids-nobody e = refuses ESRCH l (setIdsOf (tablesOf l) kind c real effective saved) (rw (← named, e))
+  set-ids-nobody e = refuses ESRCH l (setIdsOf by (tablesOf l) kind c real effective saved) (rw (← named, e))
 
   module _ (i : ℕ) (at : r ≡ At i) (p : Process) (read : p ≡ processAt (tablesOf l) i) (old : Ids) (present : old ≡ idsIn kind p) where
-    set-ids-found : setIdsOf (tablesOf l) kind c real effective saved ≡ thenThree
-        (chosen (tablesOf l) kind (p .namespace) real (old .real))
-        (chosen (tablesOf l) kind (p .namespace) effective (old .effective))
-        (chosen (tablesOf l) kind (p .namespace) saved (old .saved))
-        (refuse (tablesOf l) 22) (afterThree (tablesOf l) kind i p old)
+    set-ids-found : setIdsOf by (tablesOf l) kind c real effective saved ≡ thenThree
+        (chosen by kind (p .namespace) real (old .real))
+        (chosen by kind (p .namespace) effective (old .effective))
+        (chosen by kind (p .namespace) saved (old .saved))
+        (refuse (tablesOf l) 22) (afterThree by (tablesOf l) kind i p old)
     unfolding setIdsOf afterThree
     set-ids-found = rw (← named, at, ← read, ← present)
 
-    module _ (x : Translated) (ex : x ≡ chosen (tablesOf l) kind (p .namespace) real (old .real)) where
-      pub set-ids-no-real : x ≡ Unmapped → Promise (Refused EINVAL) l l (setIdsOf (tablesOf l) kind c real effective saved)
-      set-ids-no-real e = refuses EINVAL l (setIdsOf (tablesOf l) kind c real effective saved) (rw (set-ids-found, ← ex, e))
+    module _ (x : Translated) (ex : x ≡ chosen by kind (p .namespace) real (old .real)) where
+      pub set-ids-no-real : x ≡ Unmapped → Promise (Refused EINVAL) l l (setIdsOf by (tablesOf l) kind c real effective saved)
+      set-ids-no-real e = refuses EINVAL l (setIdsOf by (tablesOf l) kind c real effective saved) (rw (set-ids-found, ← ex, e))
 
-      module _ (a : ℕ) (xa : x ≡ Id a) (y : Translated) (ey : y ≡ chosen (tablesOf l) kind (p .namespace) effective (old .effective)) where
-        pub set-ids-no-effective : y ≡ Unmapped → Promise (Refused EINVAL) l l (setIdsOf (tablesOf l) kind c real effective saved)
-        set-ids-no-effective e = refuses EINVAL l (setIdsOf (tablesOf l) kind c real effective saved) (rw (set-ids-found, ← ex, xa, ← ey, e))
+      module _ (a : ℕ) (xa : x ≡ Id a) (y : Translated) (ey : y ≡ chosen by kind (p .namespace) effective (old .effective)) where
+        pub set-ids-no-effective : y ≡ Unmapped → Promise (Refused EINVAL) l l (setIdsOf by (tablesOf l) kind c real effective saved)
+        set-ids-no-effective e = refuses EINVAL l (setIdsOf by (tablesOf l) kind c real effective saved) (rw (set-ids-found, ← ex, xa, ← ey, e))
 
-        module _ (b : ℕ) (yb : y ≡ Id b) (z : Translated) (ez : z ≡ chosen (tablesOf l) kind (p .namespace) saved (old .saved)) where
-          pub set-ids-no-saved : z ≡ Unmapped → Promise (Refused EINVAL) l l (setIdsOf (tablesOf l) kind c real effective saved)
-          set-ids-no-saved e = refuses EINVAL l (setIdsOf (tablesOf l) kind c real effective saved) (rw (set-ids-found, ← ex, xa, ← ey, yb, ← ez, e))
+        module _ (b : ℕ) (yb : y ≡ Id b) (z : Translated) (ez : z ≡ chosen by kind (p .namespace) saved (old .saved)) where
+          pub set-ids-no-saved : z ≡ Unmapped → Promise (Refused EINVAL) l l (setIdsOf by (tablesOf l) kind c real effective saved)
+          set-ids-no-saved e = refuses EINVAL l (setIdsOf by (tablesOf l) kind c real effective saved) (rw (set-ids-found, ← ex, xa, ← ey, yb, ← ez, e))
 
           module _ (d : ℕ) (zd : z ≡ Id d) (t : Bool) (may : t ≡ mayTake (tablesOf l) kind p (record { real = a; effective = b; saved = d }) old) where
-            set-ids-three : setIdsOf (tablesOf l) kind c real effective saved ≡ afterThree (tablesOf l) kind i p old a b d
+            set-ids-three : setIdsOf by (tablesOf l) kind c real effective saved ≡ afterThree by (tablesOf l) kind i p old a b d
             set-ids-three = rw (set-ids-found, ← ex, xa, ← ey, yb, ← ez, zd)
 
-            pub set-ids-denied : t ≡ false → Promise (Refused EPERM) l l (setIdsOf (tablesOf l) kind c real effective saved)
+            pub set-ids-denied : t ≡ false → Promise (Refused EPERM) l l (setIdsOf by (tablesOf l) kind c real effective saved)
             unfolding afterThree
-            set-ids-denied e = refuses EPERM l (setIdsOf (tablesOf l) kind c real effective saved) (sym (set-ids-three ∙ rw (← may, e)))
+            set-ids-denied e = refuses EPERM l (setIdsOf by (tablesOf l) kind c real effective saved) (sym (set-ids-three ∙ rw (← may, e)))
 
             pub set-ids-done : (l′ : List ℕ) (q : Process) → t ≡ true
-                → q ≡ withIds (tablesOf l) kind p (record { real = a; effective = b; saved = d }) → tablesOf l′ ≡ putProcess (tablesOf l) i q
-                → Promise Done l l′ (setIdsOf (tablesOf l) kind c real effective saved)
+                → q ≡ withIds by kind p (record { real = a; effective = b; saved = d }) → tablesOf l′ ≡ putProcess (tablesOf l) i q
+                → Promise Done l l′ (setIdsOf by (tablesOf l) kind c real effective saved)
             unfolding afterThree
             set-ids-done l′ q e made put =
-                answers Done l l′ (setIdsOf (tablesOf l) kind c real effective saved) refl
+                answers Done l l′ (setIdsOf by (tablesOf l) kind c real effective saved) refl
                 (rw (put, made) (sym (set-ids-three ∙ rw (← may, e))))
 
 pub ruleset changing = (

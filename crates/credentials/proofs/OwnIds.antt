@@ -22,7 +22,8 @@ use Rattle.tables.specs.declared.find.Found.{Found}
 use Rattle.tables.specs.declared.find.Found.the-variants.{At, Nothing}
 use Rattle.tables.specs.declared.answer.Errno.the-variants.{ESRCH}
 use Rattle.tables.specs.declared.answer.Answer.the-variants.{Refused, Own}
-use Rattle.hierarchy.specs.Walks.{fromKernelBy}
+use Rattle.hierarchy.specs.Walks.{Translation}
+use Rattle.hierarchy.specs.Lifted.{fromKernelBy, byLiftedMaps}
 use Rattle.hierarchy.specs.declared.batch.Known.{Known}
 use Rattle.hierarchy.specs.Batch.{turnedBy, eachBy, fromKernelEach, knownBy}
 use Rattle.hierarchy.proofs.Batches.{Knows, found-at}
@@ -34,13 +35,14 @@ use Rattle.credentials.specs.Calls.{shownAs, seen, seenIds, noIds, group
 
 -- ---- three IDs, each after the one before it, by the lifted map that the tables have
 module _ (s : State) (kind : Kind) (ls : List Line) (b n : ℕ) (lines : ls ≡ liftedAt s kind n .lines) (base : b ≡ liftedAt s kind n .base) where
-  by-own : (x : ℕ) → idOr 65534 (fromKernelBy s kind (record { base = b; lines = ls }) n x) ≡ seen s kind n x
+  by-own : (x : ℕ) → idOr 65534 (fromKernelBy s kind (record { base = b; lines = ls }) n x) ≡ seen (byLiftedMaps s) kind n x
+  unfolding byLiftedMaps
   by-own x = ap shownAs (from-own s kind ls b n lines base x _ refl)
 
   pub seen-three : (i : Ids) (r : Translated) (v : ℕ) (e d : Known) → r ≡ fromKernelBy s kind (record { base = b; lines = ls }) n (i .real) → v ≡ idOr 65534 r
       → e ≡ knownBy (turnedBy true s kind (record { base = b; lines = ls }) n) 65534 (record { id = i .real; found = v }) (i .effective)
       → d ≡ knownBy (turnedBy true s kind (record { base = b; lines = ls }) n) 65534 e (i .saved)
-      → record { real = v; effective = e .found; saved = d .found } ≡ seenIds s kind n i
+      → record { real = v; effective = e .found; saved = d .found } ≡ seenIds (byLiftedMaps s) kind n i
   unfolding Knows
   seen-three i r v e d p w q t =
       let f : ℕ → Translated = fromKernelBy s kind (record { base = b; lines = ls }) n in
@@ -53,32 +55,32 @@ module _ (s : State) (kind : Kind) (ls : List Line) (b n : ℕ) (lines : ls ≡ 
 module _ (s : State) (n : ℕ) (three : Ids) (g : GroupList) (given found : List ℕ) (seen-list : GroupList) (long : length (g .ids) ≡ 16) (read : given ≡ ownBatch (g .ids) three)
     (seen-all : found ≡ fromKernelEach s Group n 65534 given) where
   -- those of the list, and then the three
-  found-is : found ≡ map (seen s Group n) (g .ids) ++ (seen s Group n (three .real) ∷ seen s Group n (three .effective) ∷ seen s Group n (three .saved) ∷ seen s Group n 0 ∷ [])
-  unfolding eachBy ownBatch
-  found-is = seen-all ∙ rw (read, map-append (seen s Group n) (g .ids) (three .real ∷ three .effective ∷ three .saved ∷ 0 ∷ []))
+  found-is : found ≡ map (seen (byLiftedMaps s) Group n) (g .ids) ++ (seen (byLiftedMaps s) Group n (three .real) ∷ seen (byLiftedMaps s) Group n (three .effective) ∷ seen (byLiftedMaps s) Group n (three .saved) ∷ seen (byLiftedMaps s) Group n 0 ∷ [])
+  unfolding byLiftedMaps eachBy ownBatch
+  found-is = seen-all ∙ rw (read, map-append (seen (byLiftedMaps s) Group n) (g .ids) (three .real ∷ three .effective ∷ three .saved ∷ 0 ∷ []))
 
-  many : length (map (seen s Group n) (g .ids)) ≡ 16
-  many = length-map (g .ids) (seen s Group n) ∙ long
+  many : length (map (seen (byLiftedMaps s) Group n) (g .ids)) ≡ 16
+  many = length-map (g .ids) (seen (byLiftedMaps s) Group n) ∙ long
 
   -- the one at place 16 + k
-  own-at : (k : ℕ) → getD found (16 + k) 0 ≡ getD (seen s Group n (three .real) ∷ seen s Group n (three .effective) ∷ seen s Group n (three .saved) ∷ seen s Group n 0 ∷ []) k 0
+  own-at : (k : ℕ) → getD found (16 + k) 0 ≡ getD (seen (byLiftedMaps s) Group n (three .real) ∷ seen (byLiftedMaps s) Group n (three .effective) ∷ seen (byLiftedMaps s) Group n (three .saved) ∷ seen (byLiftedMaps s) Group n 0 ∷ []) k 0
   own-at k =
-      let l = map (seen s Group n) (g .ids) in
-      let rest = seen s Group n (three .real) ∷ seen s Group n (three .effective) ∷ seen s Group n (three .saved) ∷ seen s Group n 0 ∷ [] in
+      let l = map (seen (byLiftedMaps s) Group n) (g .ids) in
+      let rest = seen (byLiftedMaps s) Group n (three .real) ∷ seen (byLiftedMaps s) Group n (three .effective) ∷ seen (byLiftedMaps s) Group n (three .saved) ∷ seen (byLiftedMaps s) Group n 0 ∷ [] in
       ap (λ (xs : List ℕ). getD xs (16 + k) 0) found-is ∙ ap (λ (m : ℕ). getD (l ++ rest) (m + k) 0) (sym many) ∙ getD-append-add l rest k 0
 
-  list-is : take (min (g .count) 16) found ≡ map (seen s Group n) (take (g .count) (g .ids))
+  list-is : take (min (g .count) 16) found ≡ map (seen (byLiftedMaps s) Group n) (take (g .count) (g .ids))
   list-is =
-      let l = map (seen s Group n) (g .ids) in
+      let l = map (seen (byLiftedMaps s) Group n) (g .ids) in
       let m : min (g .count) 16 ≡ min (g .count) (length (g .ids)) = ap (min (g .count)) (sym long) in
       ap (take (min (g .count) 16)) found-is
       ∙ take-append-le (min (g .count) 16) l _ (omega (arith, many))
-      ∙ take-map (seen s Group n) (min (g .count) 16) (g .ids)
-      ∙ ap (map (seen s Group n)) (ap (λ (k : ℕ). take k (g .ids)) m ∙ sym (take-min (g .count) (g .ids)))
+      ∙ take-map (seen (byLiftedMaps s) Group n) (min (g .count) 16) (g .ids)
+      ∙ ap (map (seen (byLiftedMaps s) Group n)) (ap (λ (k : ℕ). take k (g .ids)) m ∙ sym (take-min (g .count) (g .ids)))
 
   pub groups-seen : seen-list ≡ groupList (take (min (g .count) 16) found)
       → _≡_ {A = Groups} (record { three = record { real = getD found 16 0; effective = getD found 17 0; saved = getD found 18 0 }; list = seen-list })
-      (record { three = seenIds s Group n three; list = seenGroups s n g })
+      (record { three = seenIds (byLiftedMaps s) Group n three; list = seenGroups (byLiftedMaps s) n g })
   unfolding seenGroups
   groups-seen e = λ i. record {
     three = record { real = own-at 0 i; effective = own-at 1 i; saved = own-at 2 i };
@@ -86,15 +88,15 @@ module _ (s : State) (n : ℕ) (three : Ids) (g : GroupList) (given found : List
   }
 
 -- ---- the call
-module _ (s : State) (c : ℕ) (r : Found) (named : r ≡ processNamed s c) where
+module _ (by : Translation) (s : State) (c : ℕ) (r : Found) (named : r ≡ processNamed s c) where
   pub own-nobody : r ≡ Nothing
-      → _≡_ {A = OwnIds} (record { answer = Refused ESRCH; users = noIds; groups = noIds; supplementary = record { count = 0; ids = replicate 16 0 } }) (ownIdsOf s c)
+      → _≡_ {A = OwnIds} (record { answer = Refused ESRCH; users = noIds; groups = noIds; supplementary = record { count = 0; ids = replicate 16 0 } }) (ownIdsOf by s c)
   unfolding ownIdsOf groupList
   own-nobody e = rw (← named, e)
 
-  pub own-found : (i : ℕ) (p : Process) (a : Ids) (g : Groups) → r ≡ At i → p ≡ processAt s i → a ≡ seenIds s User (p .namespace) (p .users)
-      → g ≡ record { three = seenIds s Group (p .namespace) (p .groups); list = seenGroups s (p .namespace) (p .supplementary) }
-      → _≡_ {A = OwnIds} (record { answer = Own; users = a; groups = g .three; supplementary = g .list }) (ownIdsOf s c)
+  pub own-found : (i : ℕ) (p : Process) (a : Ids) (g : Groups) → r ≡ At i → p ≡ processAt s i → a ≡ seenIds by User (p .namespace) (p .users)
+      → g ≡ record { three = seenIds by Group (p .namespace) (p .groups); list = seenGroups by (p .namespace) (p .supplementary) }
+      → _≡_ {A = OwnIds} (record { answer = Own; users = a; groups = g .three; supplementary = g .list }) (ownIdsOf by s c)
   unfolding ownIdsOf
   own-found i p a g at read ea eg = rw (← named, at, ← read, ea, eg)
 

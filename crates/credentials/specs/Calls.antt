@@ -23,7 +23,7 @@ use Rattle.tables.specs.Find.{processNamed, namespaceNamed}
 use Rattle.tables.specs.Reply.{Reply, refused, done, yes′, no′, id, unmapped, Outcome, refuse, onFound, when, unless}
 use Rattle.tables.specs.declared.answer.Errno.the-variants.{ESRCH}
 use Rattle.tables.specs.declared.answer.Answer.the-variants.{Refused, Own}
-use Rattle.hierarchy.specs.Walks.{toKernel, fromKernel, capableIn}
+use Rattle.hierarchy.specs.Walks.{Translation, capableIn}
 use Rattle.credentials.specs.declared.own.OwnIds.{OwnIds}
 use Rattle.credentials.specs.declared.groups.Listed.{Listed}
 use Rattle.credentials.specs.declared.translate.Way.{Way}
@@ -31,8 +31,8 @@ use Rattle.credentials.specs.declared.translate.Way.the-variants.{Out, B
 
 -- ---- set real, effective, saved IDs of a kind
 -- what is given for one of the three: 4,294,967,295 leaves it as it is, another ID is translated out
-abbrev pub chosen : State → Kind → ℕ → ℕ → ℕ → Translated
-chosen s kind n x old = cond (eqb x noId) (Id old) (toKernel s kind n x)
+abbrev pub chosen : Translation → Kind → ℕ → ℕ → ℕ → Translated
+chosen by kind n x old = cond (eqb x noId) (Id old) (by .out kind n x)
 
 -- what follows three kernel IDs, or other where one is not to be had
 abbrev pub thenThree : {A : Type 0} → Translated → Translated → Translated → A → (ℕ → ℕ → ℕ → A) → A
@@ -81,25 +81,25 @@ withGroups p new = record {
   effective = p .effective;
 }
 
-abbrev pub withIds : State → Kind → Process → Ids → Process
-withIds s User p new = withUsers (toKernel s User (p .namespace) 0) p new
-withIds s Group p new = withGroups p new
+abbrev pub withIds : Translation → Kind → Process → Ids → Process
+withIds by User p new = withUsers (by .out User (p .namespace) 0) p new
+withIds by Group p new = withGroups p new
 
 -- with the capability in its own namespace any three; else each one of the present three
 unfoldable pub mayTake : State → Kind → Process → Ids → Ids → Bool
 mayTake s kind p new old = capableIn s p (p .namespace) (setIdOf kind) || allOneOf new old
 
-unfoldable pub setIdsOf : State → Kind → ℕ → ℕ → ℕ → ℕ → Outcome
-setIdsOf s kind c real effective saved =
+unfoldable pub setIdsOf : Translation → State → Kind → ℕ → ℕ → ℕ → ℕ → Outcome
+setIdsOf by s kind c real effective saved =
     onFound (processNamed s c) (refuse s 3) (λ i.
     thenThree
-    (chosen s kind (processAt s i .namespace) real (idsIn kind (processAt s i) .real))
-    (chosen s kind (processAt s i .namespace) effective (idsIn kind (processAt s i) .effective))
-    (chosen s kind (processAt s i .namespace) saved (idsIn kind (processAt s i) .saved))
+    (chosen by kind (processAt s i .namespace) real (idsIn kind (processAt s i) .real))
+    (chosen by kind (processAt s i .namespace) effective (idsIn kind (processAt s i) .effective))
+    (chosen by kind (processAt s i .namespace) saved (idsIn kind (processAt s i) .saved))
     (refuse s 22) (λ a b d.
     unless (mayTake s kind (processAt s i) (record { real = a; effective = b; saved = d }) (idsIn kind (processAt s i)))
     (refuse s 1)
-    (record { reply = done; tables = putProcess s i (withIds s kind (processAt s i) (record { real = a; effective = b; saved = d })) })))
+    (record { reply = done; tables = putProcess s i (withIds by kind (processAt s i) (record { real = a; effective = b; saved = d })) })))
 
 -- ---- setgroups
 abbrev pub toOption : Translated → Option ℕ
@@ -126,22 +126,22 @@ thenList none other next = other
 thenList (some ids) other next = next ids
 
 -- the kernel IDs of groups given in a namespace, or none where one is not mapped
-unfoldable pub kernelGroups : State → ℕ → List ℕ → Option (List ℕ)
-kernelGroups s n list = allOf (λ (x : ℕ). toOption (toKernel s Group n x)) list
+unfoldable pub kernelGroups : Translation → ℕ → List ℕ → Option (List ℕ)
+kernelGroups by n list = allOf (λ (x : ℕ). toOption (by .out Group n x)) list
 
 abbrev pub listedOf : Option (List ℕ) → Listed
 listedOf none = record { mapped = false; groups = groupList [] }
 listedOf (some ids) = record { mapped = true; groups = groupList ids }
 
 -- the new list replaces the old, in the order given, repeats kept
-unfoldable pub setGroupsOf : State → ℕ → List ℕ → Outcome
-setGroupsOf s c list =
+unfoldable pub setGroupsOf : Translation → State → ℕ → List ℕ → Outcome
+setGroupsOf by s c list =
     onFound (processNamed s c) (refuse s 3) (λ i.
     unless (capableIn s (processAt s i) (processAt s i .namespace) 6) (refuse s 1)
     (unless (isWritten (namespaceAt s (processAt s i .namespace) .groups .state)) (refuse s 1)
     (when (namespaceAt s (processAt s i .namespace) .deny) (refuse s 1)
     (when (ltb 16 (length list)) (refuse s 22)
-    (thenList (kernelGroups s (processAt s i .namespace) list) (refuse s 22) (λ ids.
+    (thenList (kernelGroups by (processAt s i .namespace) list) (refuse s 22) (λ ids.
     record { reply = done; tables = putProcess s i (withList (processAt s i) (groupList ids)) }))))))
 
 -- ---- the capability question
@@ -174,42 +174,42 @@ dropOf s c permitted effective =
 abbrev pub shownAs : Translated → ℕ
 shownAs r = idOr 65534 r
 
-abbrev pub seen : State → Kind → ℕ → ℕ → ℕ
-seen s kind n x = shownAs (fromKernel s kind n x)
+abbrev pub seen : Translation → Kind → ℕ → ℕ → ℕ
+seen by kind n x = shownAs (by .back kind n x)
 
-abbrev pub seenIds : State → Kind → ℕ → Ids → Ids
-seenIds s kind n i = record { real = seen s kind n (i .real); effective = seen s kind n (i .effective); saved = seen s kind n (i .saved) }
+abbrev pub seenIds : Translation → Kind → ℕ → Ids → Ids
+seenIds by kind n i = record { real = seen by kind n (i .real); effective = seen by kind n (i .effective); saved = seen by kind n (i .saved) }
 
 abbrev pub noIds : Ids
 noIds = record { real = 0; effective = 0; saved = 0 }
 
 -- the groups in order: the first of the list, as many as it has
-unfoldable pub seenGroups : State → ℕ → GroupList → GroupList
-seenGroups s n g = groupList (map (seen s Group n) (take (g .count) (g .ids)))
+unfoldable pub seenGroups : Translation → ℕ → GroupList → GroupList
+seenGroups by n g = groupList (map (seen by Group n) (take (g .count) (g .ids)))
 
-unfoldable pub ownIdsOf : State → ℕ → OwnIds
-ownIdsOf s c =
+unfoldable pub ownIdsOf : Translation → State → ℕ → OwnIds
+ownIdsOf by s c =
     onFound (processNamed s c) (record { answer = Refused ESRCH; users = noIds; groups = noIds; supplementary = groupList [] }) (λ i.
     record {
       answer = Own;
-      users = seenIds s User (processAt s i .namespace) (processAt s i .users);
-      groups = seenIds s Group (processAt s i .namespace) (processAt s i .groups);
-      supplementary = seenGroups s (processAt s i .namespace) (processAt s i .supplementary);
+      users = seenIds by User (processAt s i .namespace) (processAt s i .users);
+      groups = seenIds by Group (processAt s i .namespace) (processAt s i .groups);
+      supplementary = seenGroups by (processAt s i .namespace) (processAt s i .supplementary);
     })
 
 -- ---- translate, naming a namespace
 -- out: the kernel ID that an ID of namespace n stands for; back: the ID of namespace n that stands for a kernel ID
-abbrev pub turned : State → Kind → Way → ℕ → ℕ → Translated
-turned s kind Out n x = toKernel s kind n x
-turned s kind Back n x = fromKernel s kind n x
+abbrev pub turned : Translation → Kind → Way → ℕ → ℕ → Translated
+turned by kind Out n x = by .out kind n x
+turned by kind Back n x = by .back kind n x
 
 -- an ID, or "unmapped", which is an answer
 abbrev pub translated : Translated → Reply
 translated (Id y) = id y
 translated Unmapped = unmapped
 
-unfoldable pub translateReply : State → Kind → Way → ℕ → ℕ → ℕ → Reply
-translateReply s kind way c name x =
+unfoldable pub translateReply : Translation → State → Kind → Way → ℕ → ℕ → ℕ → Reply
+translateReply by s kind way c name x =
     onFound (processNamed s c) (refused 3) (λ i.
     onFound (namespaceNamed s name) (refused 3) (λ n.
-    translated (turned s kind way n x)))
+    translated (turned by kind way n x)))

@@ -5,6 +5,7 @@ ghost use Prim.Native.Nat.{_≤_};
 ghost use lib.ListN.{length};
 ghost use Rattle.tables.specs.Tables.{tablesOf};
 ghost use Rattle.tables.specs.Reply.{Promise};
+ghost use Rattle.hierarchy.specs.Lifted.{byLiftedMaps, quick};
 ghost use Rattle.credentials.specs.Calls.{withList, kernelGroups, listedOf, setGroupsOf};
 use crate::batching::all_ids;
 use crate::batching::batch_of;
@@ -45,7 +46,7 @@ fn none_listed() -> Listed
 // The kernel IDs of at most 16 groups, in order.
 fn kernel_groups(t: &Tables, namespace: u64, list: &[u32]) -> Listed
     requires { ⌜ length (now list) ≤ 16 ⌝ }
-    ensures { λ r. ⌜ r ≡ listedOf (kernelGroups (tablesOf (now (t .entry))) «namespace» (now (list .entry))) ⌝ }
+    ensures { λ r. ⌜ r ≡ listedOf (kernelGroups (byLiftedMaps (tablesOf (now (t .entry)))) «namespace» (now (list .entry))) ⌝ }
 {
     let kernel = to_kernel_each(t, Kind::Group, namespace, batch_of(list));
     let groups = group_list(kernel, list.len());
@@ -82,7 +83,7 @@ fn with_list(p: Process, list: GroupList) -> Process
 // yet or denies setgroups; 22 over 16 groups, or where one is not mapped.
 // Ruled out, for instance: seventeen groups; a list where setgroups is denied.
 pub fn setgroups(t: &mut Tables, caller: u64, list: &[u32]) -> Answer
-    ensures { λ r. ⌜ Promise r (now (t .entry)) (now (t .exit)) (setGroupsOf (tablesOf (now (t .entry))) caller (now (list .entry))) ⌝ }
+    ensures { λ r. ⌜ Promise r (now (t .entry)) (now (t .exit)) (quick setGroupsOf (tablesOf (now (t .entry))) caller (now (list .entry))) ⌝ }
 {
     let Found::At(place) = find_process(t, caller) else {
         return Answer::Refused(Errno::ESRCH);

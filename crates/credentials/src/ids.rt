@@ -4,6 +4,7 @@ ghost use mathlib.Core.Bool.{cond, _||_};
 ghost use Rattle.capability.specs.Sets.{emptySet};
 ghost use Rattle.tables.specs.Tables.{tablesOf};
 ghost use Rattle.tables.specs.Reply.{Promise};
+ghost use Rattle.hierarchy.specs.Lifted.{byLiftedMaps, quick};
 ghost use Rattle.credentials.specs.Calls.{chosen, isOneOf, allOneOf, losesAll, losesEffective, mayTake, withUsers, withGroups, withIds, setIdsOf};
 use capability::CapabilitySet;
 use hierarchy::capable::capable;
@@ -24,7 +25,7 @@ use tables::processes::process_put;
 
 // The kernel ID for an ID that is given: 4,294,967,295 leaves the old one.
 fn choose(t: &Tables, kind: Kind, namespace: u64, id: u32, old: u32) -> Translated
-    ensures { λ r. ⌜ r ≡ chosen (tablesOf (now (t .entry))) kind «namespace» id old ⌝ }
+    ensures { λ r. ⌜ r ≡ chosen (byLiftedMaps (tablesOf (now (t .entry)))) kind «namespace» id old ⌝ }
 {
     if id == 4294967295 {
         Translated::Id(old)
@@ -149,7 +150,7 @@ fn with_groups(p: Process, new: Ids) -> Process
 }
 
 fn with_ids(t: &Tables, kind: Kind, p: Process, new: Ids) -> Process
-    ensures { λ r. ⌜ r ≡ withIds (tablesOf (now (t .entry))) kind p new ⌝ }
+    ensures { λ r. ⌜ r ≡ withIds (byLiftedMaps (tablesOf (now (t .entry)))) kind p new ⌝ }
 {
     match kind {
         Kind::User => with_users(to_kernel(t, Kind::User, p.namespace, 0), p, new),
@@ -179,7 +180,7 @@ pub fn set_ids(
     effective: u32,
     saved: u32,
 ) -> Answer
-    ensures { λ r. ⌜ Promise r (now (t .entry)) (now (t .exit)) (setIdsOf (tablesOf (now (t .entry))) kind caller real effective saved) ⌝ }
+    ensures { λ r. ⌜ Promise r (now (t .entry)) (now (t .exit)) (quick setIdsOf (tablesOf (now (t .entry))) kind caller real effective saved) ⌝ }
 {
     let Found::At(place) = find_process(t, caller) else {
         return Answer::Refused(Errno::ESRCH);

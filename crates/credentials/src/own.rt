@@ -1,6 +1,7 @@
 // A process's own IDs, as seen in its namespace.
 ghost use mathlib.Core.Path.{_≡_};
 ghost use Rattle.tables.specs.Tables.{tablesOf};
+ghost use Rattle.hierarchy.specs.Lifted.{byLiftedMaps, quick};
 ghost use Rattle.credentials.specs.Calls.{seenIds, seenGroups, ownIdsOf};
 use crate::batching::group_list;
 use crate::batching::own_batch;
@@ -31,7 +32,7 @@ pub struct OwnIds {
 
 // The three user IDs. One that is the same as the one before it is not looked up again.
 fn seen_users(t: &Tables, namespace: u64, users: Ids) -> Ids
-    ensures { λ r. ⌜ r ≡ seenIds (tablesOf (now (t .entry))) Kind.User «namespace» users ⌝ }
+    ensures { λ r. ⌜ r ≡ seenIds (byLiftedMaps (tablesOf (now (t .entry)))) Kind.User «namespace» users ⌝ }
 {
     let kind = Kind::User;
     let lines = lifted_lines(t, namespace as usize, kind);
@@ -62,7 +63,7 @@ struct Groups {
 
 // All group IDs of a process, those of the list in order.
 fn seen_groups(t: &Tables, namespace: u64, three: Ids, list: GroupList) -> Groups
-    ensures { λ r. ⌜ r ≡ record { three = seenIds (tablesOf (now (t .entry))) Kind.Group «namespace» three; list = seenGroups (tablesOf (now (t .entry))) «namespace» list } ⌝ }
+    ensures { λ r. ⌜ r ≡ record { three = seenIds (byLiftedMaps (tablesOf (now (t .entry)))) Kind.Group «namespace» three; list = seenGroups (byLiftedMaps (tablesOf (now (t .entry)))) «namespace» list } ⌝ }
 {
     let kernel = list.ids;
     let seen = from_kernel_each(t, Kind::Group, namespace, own_batch(kernel, three), 65534);
@@ -79,7 +80,7 @@ fn seen_groups(t: &Tables, namespace: u64, three: Ids, list: GroupList) -> Group
 // The caller's own IDs. Refuses: 3 no caller.
 // Ruled out, for instance: kernel IDs shown as they are; group IDs by the user map.
 pub fn own_ids(t: &Tables, caller: u64) -> OwnIds
-    ensures { λ r. ⌜ r ≡ ownIdsOf (tablesOf (now (t .entry))) caller ⌝ }
+    ensures { λ r. ⌜ r ≡ quick ownIdsOf (tablesOf (now (t .entry))) caller ⌝ }
 {
     let Found::At(place) = find_process(t, caller) else {
         let none = Ids {

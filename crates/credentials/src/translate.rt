@@ -2,6 +2,7 @@
 ghost use mathlib.Core.Path.{_≡_};
 ghost use Rattle.tables.specs.Tables.{tablesOf};
 ghost use Rattle.tables.specs.Reply.{replyOf};
+ghost use Rattle.hierarchy.specs.Lifted.{byLiftedMaps, quick};
 ghost use Rattle.credentials.specs.Calls.{turned, translateReply};
 use hierarchy::translate::from_kernel;
 use hierarchy::translate::to_kernel;
@@ -22,7 +23,7 @@ pub enum Way {
 
 // An ID translated between the namespace at `place` and the initial one.
 fn turn(t: &Tables, kind: Kind, way: Way, place: u64, id: u32) -> Translated
-    ensures { λ r. ⌜ r ≡ turned (tablesOf (now (t .entry))) kind way place id ⌝ }
+    ensures { λ r. ⌜ r ≡ turned (byLiftedMaps (tablesOf (now (t .entry)))) kind way place id ⌝ }
 {
     match way {
         Way::Out => to_kernel(t, kind, place, id),
@@ -33,7 +34,7 @@ fn turn(t: &Tables, kind: Kind, way: Way, place: u64, id: u32) -> Translated
 // The translation of an ID between a namespace and the initial one, or that it has none. Refuses: 3 no caller or no such namespace.
 // Ruled out, for instance: the parent's ID instead of the kernel ID; a refusal of an ID that is not mapped.
 pub fn translate(t: &Tables, kind: Kind, way: Way, caller: u64, name: u64, id: u32) -> Answer
-    ensures { λ r. ⌜ replyOf r ≡ translateReply (tablesOf (now (t .entry))) kind way caller name id ⌝ }
+    ensures { λ r. ⌜ replyOf r ≡ quick translateReply (tablesOf (now (t .entry))) kind way caller name id ⌝ }
 {
     let Found::At(_) = find_process(t, caller) else {
         return Answer::Refused(Errno::ESRCH);

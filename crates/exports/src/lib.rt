@@ -7,6 +7,7 @@ ghost use Rattle.prelude.specs.Parts.{putAt};
 ghost use Rattle.records.specs.declared.Kind.the-variants.{User, Group};
 ghost use Rattle.tables.specs.Tables.{tablesOf, initialTables};
 ghost use Rattle.tables.specs.Reply.{replyOf, numberOf};
+ghost use Rattle.hierarchy.specs.Lifted.{quick};
 ghost use Rattle.process.specs.Calls.{forkOf, cloneOf, unshareOf, setnsOf};
 ghost use Rattle.mapping.specs.Calls.{writeMapOf, writeSetgroupsOf, readMapOf, readSetgroupsOf};
 ghost use Rattle.credentials.specs.declared.translate.Way.the-variants.{Out, Back};
@@ -88,8 +89,8 @@ fn space(a: Answer, old: u64) -> u64
 
 #[no_mangle]
 pub extern "C" fn oarhatchet_clone(t: &mut Tables, caller: u64, new_namespace: &mut u64) -> u64
-    ensures { λ r. ⌜ Coded r (now (t .entry)) (now (t .exit)) (cloneOf (tablesOf (now (t .entry))) caller) ⌝ }
-    ensures { λ r. ⌜ now («new_namespace» .exit) ≡ spaceAfter (cloneOf (tablesOf (now (t .entry))) caller .reply) (now («new_namespace» .entry)) ⌝ }
+    ensures { λ r. ⌜ Coded r (now (t .entry)) (now (t .exit)) (quick cloneOf (tablesOf (now (t .entry))) caller) ⌝ }
+    ensures { λ r. ⌜ now («new_namespace» .exit) ≡ spaceAfter (quick cloneOf (tablesOf (now (t .entry))) caller .reply) (now («new_namespace» .entry)) ⌝ }
 {
     let answer = process::clone(t, caller);
     *new_namespace = space(answer, *new_namespace);
@@ -98,7 +99,7 @@ pub extern "C" fn oarhatchet_clone(t: &mut Tables, caller: u64, new_namespace: &
 
 #[no_mangle]
 pub extern "C" fn oarhatchet_unshare(t: &mut Tables, caller: u64) -> u64
-    ensures { λ r. ⌜ Coded r (now (t .entry)) (now (t .exit)) (unshareOf (tablesOf (now (t .entry))) caller) ⌝ }
+    ensures { λ r. ⌜ Coded r (now (t .entry)) (now (t .exit)) (quick unshareOf (tablesOf (now (t .entry))) caller) ⌝ }
 {
     code(process::unshare(t, caller))
 }
@@ -117,7 +118,7 @@ pub extern "C" fn oarhatchet_write_uid_map(
     process: u64,
     text: &[u8],
 ) -> u64
-    ensures { λ r. ⌜ Coded r (now (t .entry)) (now (t .exit)) (writeMapOf (tablesOf (now (t .entry))) User caller process (now (text .entry))) ⌝ }
+    ensures { λ r. ⌜ Coded r (now (t .entry)) (now (t .exit)) (quick writeMapOf (tablesOf (now (t .entry))) User caller process (now (text .entry))) ⌝ }
 {
     code(mapping::write::write_map(t, Kind::User, caller, process, text))
 }
@@ -129,7 +130,7 @@ pub extern "C" fn oarhatchet_write_gid_map(
     process: u64,
     text: &[u8],
 ) -> u64
-    ensures { λ r. ⌜ Coded r (now (t .entry)) (now (t .exit)) (writeMapOf (tablesOf (now (t .entry))) Group caller process (now (text .entry))) ⌝ }
+    ensures { λ r. ⌜ Coded r (now (t .entry)) (now (t .exit)) (quick writeMapOf (tablesOf (now (t .entry))) Group caller process (now (text .entry))) ⌝ }
 {
     code(mapping::write::write_map(t, Kind::Group, caller, process, text))
 }
@@ -153,7 +154,7 @@ pub extern "C" fn oarhatchet_read_uid_map(
     process: u64,
     buffer: &mut [u8],
 ) -> u64
-    ensures { λ r. ⌜ CodedRead r (now (buffer .exit)) (readMapOf (tablesOf (now (t .entry))) User caller process (now (buffer .entry))) ⌝ }
+    ensures { λ r. ⌜ CodedRead r (now (buffer .exit)) (quick readMapOf (tablesOf (now (t .entry))) User caller process (now (buffer .entry))) ⌝ }
 {
     code(mapping::read::read_map(t, Kind::User, caller, process, buffer))
 }
@@ -165,7 +166,7 @@ pub extern "C" fn oarhatchet_read_gid_map(
     process: u64,
     buffer: &mut [u8],
 ) -> u64
-    ensures { λ r. ⌜ CodedRead r (now (buffer .exit)) (readMapOf (tablesOf (now (t .entry))) Group caller process (now (buffer .entry))) ⌝ }
+    ensures { λ r. ⌜ CodedRead r (now (buffer .exit)) (quick readMapOf (tablesOf (now (t .entry))) Group caller process (now (buffer .entry))) ⌝ }
 {
     code(mapping::read::read_map(t, Kind::Group, caller, process, buffer))
 }
@@ -190,7 +191,7 @@ pub extern "C" fn oarhatchet_setresuid(
     effective: u32,
     saved: u32,
 ) -> u64
-    ensures { λ r. ⌜ Coded r (now (t .entry)) (now (t .exit)) (setIdsOf (tablesOf (now (t .entry))) User caller real effective saved) ⌝ }
+    ensures { λ r. ⌜ Coded r (now (t .entry)) (now (t .exit)) (quick setIdsOf (tablesOf (now (t .entry))) User caller real effective saved) ⌝ }
 {
     code(credentials::ids::set_ids(t, Kind::User, caller, real, effective, saved))
 }
@@ -203,14 +204,14 @@ pub extern "C" fn oarhatchet_setresgid(
     effective: u32,
     saved: u32,
 ) -> u64
-    ensures { λ r. ⌜ Coded r (now (t .entry)) (now (t .exit)) (setIdsOf (tablesOf (now (t .entry))) Group caller real effective saved) ⌝ }
+    ensures { λ r. ⌜ Coded r (now (t .entry)) (now (t .exit)) (quick setIdsOf (tablesOf (now (t .entry))) Group caller real effective saved) ⌝ }
 {
     code(credentials::ids::set_ids(t, Kind::Group, caller, real, effective, saved))
 }
 
 #[no_mangle]
 pub extern "C" fn oarhatchet_setgroups(t: &mut Tables, caller: u64, list: &[u32]) -> u64
-    ensures { λ r. ⌜ Coded r (now (t .entry)) (now (t .exit)) (setGroupsOf (tablesOf (now (t .entry))) caller (now (list .entry))) ⌝ }
+    ensures { λ r. ⌜ Coded r (now (t .entry)) (now (t .exit)) (quick setGroupsOf (tablesOf (now (t .entry))) caller (now (list .entry))) ⌝ }
 {
     code(credentials::groups::setgroups(t, caller, list))
 }
@@ -296,7 +297,7 @@ fn store(buffer: &mut [u32], words: &[u32])
 
 #[no_mangle]
 pub extern "C" fn oarhatchet_getids(t: &Tables, caller: u64, ids: &mut [u32; 22]) -> u64
-    ensures { λ r. ⌜ CodedIds r (now (ids .entry)) (now (ids .exit)) (ownIdsOf (tablesOf (now (t .entry))) caller) ⌝ }
+    ensures { λ r. ⌜ CodedIds r (now (ids .entry)) (now (ids .exit)) (quick ownIdsOf (tablesOf (now (t .entry))) caller) ⌝ }
 {
     let own = credentials::own::own_ids(t, caller);
     let answer = own.answer;
@@ -313,7 +314,7 @@ pub extern "C" fn oarhatchet_getids(t: &Tables, caller: u64, ids: &mut [u32; 22]
 
 #[no_mangle]
 pub extern "C" fn oarhatchet_translate_uid_out(t: &Tables, caller: u64, target: u64, id: u32) -> u64
-    ensures { λ r. ⌜ r ≡ codeOf (translateReply (tablesOf (now (t .entry))) User Out caller target id) ⌝ }
+    ensures { λ r. ⌜ r ≡ codeOf (quick translateReply (tablesOf (now (t .entry))) User Out caller target id) ⌝ }
 {
     code(credentials::translate::translate(t, Kind::User, Way::Out, caller, target, id))
 }
@@ -325,14 +326,14 @@ pub extern "C" fn oarhatchet_translate_uid_back(
     target: u64,
     id: u32,
 ) -> u64
-    ensures { λ r. ⌜ r ≡ codeOf (translateReply (tablesOf (now (t .entry))) User Back caller target id) ⌝ }
+    ensures { λ r. ⌜ r ≡ codeOf (quick translateReply (tablesOf (now (t .entry))) User Back caller target id) ⌝ }
 {
     code(credentials::translate::translate(t, Kind::User, Way::Back, caller, target, id))
 }
 
 #[no_mangle]
 pub extern "C" fn oarhatchet_translate_gid_out(t: &Tables, caller: u64, target: u64, id: u32) -> u64
-    ensures { λ r. ⌜ r ≡ codeOf (translateReply (tablesOf (now (t .entry))) Group Out caller target id) ⌝ }
+    ensures { λ r. ⌜ r ≡ codeOf (quick translateReply (tablesOf (now (t .entry))) Group Out caller target id) ⌝ }
 {
     code(credentials::translate::translate(t, Kind::Group, Way::Out, caller, target, id))
 }
@@ -344,7 +345,7 @@ pub extern "C" fn oarhatchet_translate_gid_back(
     target: u64,
     id: u32,
 ) -> u64
-    ensures { λ r. ⌜ r ≡ codeOf (translateReply (tablesOf (now (t .entry))) Group Back caller target id) ⌝ }
+    ensures { λ r. ⌜ r ≡ codeOf (quick translateReply (tablesOf (now (t .entry))) Group Back caller target id) ⌝ }
 {
     code(credentials::translate::translate(t, Kind::Group, Way::Back, caller, target, id))
 }

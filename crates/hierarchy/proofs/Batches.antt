@@ -19,7 +19,8 @@ use Rattle.records.specs.declared.Kind.{Kind}
 use Rattle.lifted_map.specs.Lift.{Lifted}
 use Rattle.tables.specs.Tables.{State, liftedAt}
 use Rattle.hierarchy.specs.declared.batch.Known.{Known}
-use Rattle.hierarchy.specs.Walks.{itself, outIn, toKernelBy, toKernel, fromKernelBy, fromKernel}
+use Rattle.hierarchy.specs.Walks.{itself}
+use Rattle.hierarchy.specs.Lifted.{outIn, toKernelBy, toKernel, fromKernelBy, fromKernel}
 use Rattle.hierarchy.specs.Batch.{turnedBy, orElse, eachBy, toKernelEach, fromKernelEach, knownBy}
 use Rattle.hierarchy.proofs.Translations.{own, to-first, from-first, to-kernel-root, from-kernel-root}
 

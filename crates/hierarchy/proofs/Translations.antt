@@ -12,7 +12,8 @@ use Rattle.idmap.specs.Lookup.{out, thenId, back}
 use Rattle.records.specs.declared.Kind.{Kind}
 use Rattle.lifted_map.specs.Lift.{Lifted}
 use Rattle.tables.specs.Tables.{State, liftedAt}
-use Rattle.hierarchy.specs.Walks.{itself, outIn, toKernelBy, toKernel, backIn, fromKernelBy, fromKernel}
+use Rattle.hierarchy.specs.Walks.{itself}
+use Rattle.hierarchy.specs.Lifted.{outIn, toKernelBy, toKernel, backIn, fromKernelBy, fromKernel}
 
 -- ---- the initial namespace
 pub itself-none : (x : ℕ) → x ≡ 4294967295 → Unmapped ≡ itself x

@@ -10,7 +10,7 @@ use Rattle.records.specs.declared.Kind.{Kind}
 use Rattle.lifted_map.specs.Lift.{Lifted}
 use Rattle.tables.specs.Tables.{State}
 use Rattle.hierarchy.specs.declared.batch.Known.{Known}
-use Rattle.hierarchy.specs.Walks.{toKernelBy, toKernel, fromKernelBy, fromKernel}
+use Rattle.hierarchy.specs.Lifted.{toKernelBy, toKernel, fromKernelBy, fromKernel}
 
 -- one translation, out or back
 abbrev pub turnedBy : Bool → State → Kind → Lifted → ℕ → ℕ → Translated

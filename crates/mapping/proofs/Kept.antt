@@ -11,6 +11,7 @@ use Rattle.tables.specs.declared.find.Found.the-variants.{At, Nothing}
 use Rattle.tables.specs.Tables.{State}
 use Rattle.tables.specs.Find.{processNamed}
 use Rattle.tables.specs.Reply.{refused, isRefused, onFound}
+use Rattle.hierarchy.specs.Walks.{Translation}
 use Rattle.mapping.specs.Calls.{ReadOutcome, readText, readMapOf, readSetgroupsOf}
 
 -- a refusal leaves the buffer
@@ -28,9 +29,9 @@ found-kept : (buffer : List ℕ) (r : Found) (next : ℕ → ReadOutcome) → ((
 found-kept buffer (At i) next h = h i
 found-kept buffer Nothing next h = λ e. refl
 
-pub read-map-kept : (s : State) (kind : Kind) (c name : ℕ) (buffer : List ℕ) → Leaves buffer (readMapOf s kind c name buffer)
+pub read-map-kept : (by : Translation) (s : State) (kind : Kind) (c name : ℕ) (buffer : List ℕ) → Leaves buffer (readMapOf by s kind c name buffer)
 unfolding readMapOf
-read-map-kept s kind c name buffer =
+read-map-kept by s kind c name buffer =
     found-kept buffer (processNamed s c) _ (λ r. found-kept buffer (processNamed s name) _ (λ p. text-kept _ buffer))
 
 pub read-setgroups-kept : (s : State) (c name : ℕ) (buffer : List ℕ) → Leaves buffer (readSetgroupsOf s c name buffer)

@@ -34,7 +34,8 @@ use Rattle.tables.specs.declared.find.Found.the-variants.{At, Nothing}
 use Rattle.tables.specs.Tables.{State, processAt, namespaceAt}
 use Rattle.tables.specs.Find.{processNamed}
 use Rattle.tables.specs.Reply.{refused, bytes}
-use Rattle.hierarchy.specs.Walks.{toKernel, fromKernel}
+use Rattle.hierarchy.specs.Walks.{Translation}
+use Rattle.hierarchy.specs.Lifted.{toKernel, fromKernel, byLiftedMaps}
 use Rattle.mapping.specs.Calls.{ReadOutcome, readText, viewOf, shownLine, lineCount, mapTextOf, readMapOf}
 use Rattle.mapping.specs.Calls.{denyText, allowText, settingText, readSetgroupsOf}
 
@@ -52,12 +53,12 @@ module _ (s : State) (r : Process) (n : ℕ) where
 module _ (s : State) (kind : Kind) (n v : ℕ) (l : Line) (t : Namespace) (read : t ≡ namespaceAt s n) (a : Translated)
     (start : a ≡ toKernel s kind (t .parent) (l .parent)) where
   pub shown-id : (x y : ℕ) (b : Translated) → a ≡ Id x → b ≡ fromKernel s kind v x → y ≡ orNoId b
-      → _≡_ {A = Line} (record { inside = l .inside; parent = y; count = l .count }) (shownLine s kind n v l)
-  unfolding shownLine
+      → _≡_ {A = Line} (record { inside = l .inside; parent = y; count = l .count }) (shownLine (byLiftedMaps s) s kind n v l)
+  unfolding shownLine byLiftedMaps
   shown-id x y b e f g = rw (g, f, ← read, ← start, e)
 
-  pub shown-none : a ≡ Unmapped → _≡_ {A = Line} (record { inside = l .inside; parent = 4294967295; count = l .count }) (shownLine s kind n v l)
-  unfolding shownLine
+  pub shown-none : a ≡ Unmapped → _≡_ {A = Line} (record { inside = l .inside; parent = 4294967295; count = l .count }) (shownLine (byLiftedMaps s) s kind n v l)
+  unfolding shownLine byLiftedMaps
   shown-none e = rw (← read, ← start, e)
 
 -- ---- line_count
@@ -98,27 +99,27 @@ map-snoc : (f : Line → Line) (ls : List Line) (l : Line) → map f (ls ++ (l �
 map-snoc f [] l = refl
 map-snoc f (k ∷ ls) l = ap (λ (r : List Line). f k ∷ r) (map-snoc f ls l)
 
-module _ (s : State) (kind : Kind) (n v : ℕ) (b : List ℕ) (ls : List Line) where
-  pub lines-start : b ≡ putAt b 0 (linesText (map (shownLine s kind n v) (take 0 ls)))
+module _ (by : Translation) (s : State) (kind : Kind) (n v : ℕ) (b : List ℕ) (ls : List Line) where
+  pub lines-start : b ≡ putAt b 0 (linesText (map (shownLine by s kind n v) (take 0 ls)))
   unfolding linesText
   lines-start = sym (put-front b [] [] (omega arith))
 
-  module _ (t : List ℕ) (i count : ℕ) (inv : t ≡ putAt b 0 (linesText (map (shownLine s kind n v) (take i ls)))) where
+  module _ (t : List ℕ) (i count : ℕ) (inv : t ≡ putAt b 0 (linesText (map (shownLine by s kind n v) (take i ls)))) where
     -- one more line is in place
     pub lines-step : (d l : Line) (t′ : List ℕ) → length ls ≡ 5 → count ≤ 5 → count * 33 ≤ length b → i < count
-        → l ≡ shownLine s kind n v (getD ls i d) → t′ ≡ putAt t (i * 33) (lineText l)
-        → t′ ≡ putAt b 0 (linesText (map (shownLine s kind n v) (take (i + 1) ls)))
+        → l ≡ shownLine by s kind n v (getD ls i d) → t′ ≡ putAt t (i * 33) (lineText l)
+        → t′ ≡ putAt b 0 (linesText (map (shownLine by s kind n v) (take (i + 1) ls)))
     lines-step d l t′ long most room h e q =
-        let before = map (shownLine s kind n v) (take i ls) in
+        let before = map (shownLine by s kind n v) (take i ls) in
         let k : length (take i ls) ≡ i = length-take-le i ls (omega arith) in
-        let z : length (linesText before) ≡ i * 33 = omega (arith, length-lines-text before, length-map (take i ls) (shownLine s kind n v)) in
+        let z : length (linesText before) ≡ i * 33 = omega (arith, length-lines-text before, length-map (take i ls) (shownLine by s kind n v)) in
         let f : length (linesText before) + length (lineText l) ≤ length b = omega (arith, length-line-text l) in
-        let text : linesText (map (shownLine s kind n v) (take (i + 1) ls)) ≡ linesText before ++ lineText l =
+        let text : linesText (map (shownLine by s kind n v) (take (i + 1) ls)) ≡ linesText before ++ lineText l =
         rw (add-one, take-suc ls i d (omega arith), map-snoc, lines-text-snoc, e) in
         rw (q, inv, ← z, text) (put-next b (linesText before) (lineText l) f)
 
     -- all of them are in place
-    pub lines-end : i ≤ count → count ≤ i → t ≡ putAt b 0 (linesText (map (shownLine s kind n v) (take count ls)))
+    pub lines-end : i ≤ count → count ≤ i → t ≡ putAt b 0 (linesText (map (shownLine by s kind n v) (take count ls)))
     lines-end h k = let e : i ≡ count = omega arith in rw (← e) inv
 
 pub length-stored : (b t t′ vs : List ℕ) (at : ℕ) → t′ ≡ putAt t at vs → length t ≡ length b → length t′ ≡ length b
@@ -132,20 +133,20 @@ lines-counted (Written n) ls e = by-test (leb n 5)
     (λ t. let h = leb-true n 5 t in let k : n ≡ min n 5 = omega arith in rw (← k))
     (λ t. let h = leb-false n 5 t in take-all n ls (omega arith) ∙ sym (take-all (min n 5) ls (omega arith)))
 
-module _ (s : State) (kind : Kind) (c name : ℕ) (b : List ℕ) (f : Found) (caller : f ≡ processNamed s c) where
-  pub map-no-reader : f ≡ Nothing → _≡_ {A = ReadOutcome} (record { reply = refused 3; buffer = b }) (readMapOf s kind c name b)
+module _ (by : Translation) (s : State) (kind : Kind) (c name : ℕ) (b : List ℕ) (f : Found) (caller : f ≡ processNamed s c) where
+  pub map-no-reader : f ≡ Nothing → _≡_ {A = ReadOutcome} (record { reply = refused 3; buffer = b }) (readMapOf by s kind c name b)
   unfolding readMapOf
   map-no-reader e = rw (← caller, e)
 
   module _ (i : ℕ) (reader : f ≡ At i) (g : Found) (named : g ≡ processNamed s name) where
-    pub map-no-process : g ≡ Nothing → _≡_ {A = ReadOutcome} (record { reply = refused 3; buffer = b }) (readMapOf s kind c name b)
+    pub map-no-process : g ≡ Nothing → _≡_ {A = ReadOutcome} (record { reply = refused 3; buffer = b }) (readMapOf by s kind c name b)
     unfolding readMapOf
     map-no-process e = rw (← caller, reader, ← named, e)
 
     module _ (j : ℕ) (place : g ≡ At j) (p : Process) (process : p ≡ processAt s j) (t : Namespace) (target : t ≡ namespaceAt s (p .namespace))
         (m : IdMap) (read : m ≡ mapIn kind t) (long : length (m .lines) ≡ 5) (k : ℕ) (count : k ≡ lineCount (m .state)) where
       map-text : (r : Process) → r ≡ processAt s i
-          → readMapOf s kind c name b ≡ readText (linesText (map (shownLine s kind (p .namespace) (viewOf s r (p .namespace))) (take k (m .lines)))) b
+          → readMapOf by s kind c name b ≡ readText (linesText (map (shownLine by s kind (p .namespace) (viewOf s r (p .namespace))) (take k (m .lines)))) b
       unfolding readMapOf mapTextOf
       map-text r e = rw (← caller, reader, ← named, place, ← process, ← e, ← target, ← read, lines-counted (m .state) (m .lines) long, ← count)
 
@@ -155,20 +156,20 @@ module _ (s : State) (kind : Kind) (c name : ℕ) (b : List ℕ) (f : Found) (ca
           let front : length (take k (m .lines)) ≡ k = length-take-le k (m .lines) (omega arith) in
           omega (arith, length-lines-text (map h (take k (m .lines))), length-map (take k (m .lines)) h)
 
-      pub map-short : length b < k * 33 → _≡_ {A = ReadOutcome} (record { reply = refused 34; buffer = b }) (readMapOf s kind c name b)
+      pub map-short : length b < k * 33 → _≡_ {A = ReadOutcome} (record { reply = refused 34; buffer = b }) (readMapOf by s kind c name b)
       unfolding readText
       map-short h =
-          let w = shownLine s kind (p .namespace) (viewOf s (processAt s i) (p .namespace)) in
+          let w = shownLine by s kind (p .namespace) (viewOf s (processAt s i) (p .namespace)) in
           let text = linesText (map w (take k (m .lines))) in
           let over : length b < 0 + length text = omega (arith, length-text w) in
           sym (map-text (processAt s i) refl ∙ rw (fits-outside b 0 text over, put-outside b 0 text over))
 
       pub map-read : (r : Process) (v : ℕ) (b′ : List ℕ) → r ≡ processAt s i → k * 33 ≤ length b → v ≡ viewOf s r (p .namespace)
-          → b′ ≡ putAt b 0 (linesText (map (shownLine s kind (p .namespace) v) (take k (m .lines))))
-          → _≡_ {A = ReadOutcome} (record { reply = bytes (k * 33); buffer = b′ }) (readMapOf s kind c name b)
+          → b′ ≡ putAt b 0 (linesText (map (shownLine by s kind (p .namespace) v) (take k (m .lines))))
+          → _≡_ {A = ReadOutcome} (record { reply = bytes (k * 33); buffer = b′ }) (readMapOf by s kind c name b)
       unfolding readText
       map-read r v b′ e h see q =
-          let w = shownLine s kind (p .namespace) v in
+          let w = shownLine by s kind (p .namespace) v in
           let text = linesText (map w (take k (m .lines))) in
           let under : 0 + length text ≤ length b = omega (arith, length-text w) in
           sym (map-text r e ∙ rw (← see, fits-inside b 0 text under, length-text w, ← q))

@@ -38,7 +38,8 @@ use Rattle.tables.specs.Tables.{State, tablesOf, processAt, namespaceAt, lifted
 use Rattle.tables.specs.Find.{processNamed}
 use Rattle.tables.specs.Reply.{Outcome, Promise}
 use Rattle.tables.proofs.Promises.{refuses, answers}
-use Rattle.hierarchy.specs.Walks.{toKernel, capableIn}
+use Rattle.hierarchy.specs.Walks.{Translation, capableIn}
+use Rattle.hierarchy.specs.Lifted.{toKernel, byLiftedMaps}
 use Rattle.mapping.specs.Calls.{isNear, isId, mayByKind, singleLine, mayMap, allCovered, withMap, writtenMap, mappedTables, writeLinesTo, writeMapTo, writeMapOf}
 
 -- ---- near
@@ -63,46 +64,46 @@ one-line : (ls : List Line) (d : Line) → 0 < length ls → take 1 ls ≡ getD 
 one-line [] d h = absurd (omega arith)
 one-line (l ∷ ls) d h = refl
 
-not-one : (s : State) (kind : Kind) (w : Process) (n : ℕ) (ls : List Line) (count : ℕ) → 1 < length ls → (count ≡ 1 → ⊥) → false ≡ singleLine s kind w n (take count ls)
+not-one : (by : Translation) (s : State) (kind : Kind) (w : Process) (n : ℕ) (ls : List Line) (count : ℕ) → 1 < length ls → (count ≡ 1 → ⊥) → false ≡ singleLine by s kind w n (take count ls)
 unfolding singleLine
-not-one s kind w n ls zero h e = refl
-not-one s kind w n ls (suc zero) h e = absurd (omega arith)
-not-one s kind w n [] (suc (suc k)) h e = refl
-not-one s kind w n (l ∷ []) (suc (suc k)) h e = absurd (omega arith)
-not-one s kind w n (l ∷ m ∷ ls) (suc (suc k)) h e = refl
+not-one by s kind w n ls zero h e = refl
+not-one by s kind w n ls (suc zero) h e = absurd (omega arith)
+not-one by s kind w n [] (suc (suc k)) h e = refl
+not-one by s kind w n (l ∷ []) (suc (suc k)) h e = absurd (omega arith)
+not-one by s kind w n (l ∷ m ∷ ls) (suc (suc k)) h e = refl
 
 module _ (s : State) (kind : Kind) (w : Process) (n : ℕ) (ls : List Line) (count k : ℕ) (long : length ls ≡ k) where
-  pub single-other : 1 < k → (count ≡ 1 → ⊥) → false ≡ singleLine s kind w n (take count ls)
-  single-other h e = not-one s kind w n ls count (omega arith) e
+  pub single-other : 1 < k → (count ≡ 1 → ⊥) → false ≡ singleLine (byLiftedMaps s) s kind w n (take count ls)
+  single-other h e = not-one (byLiftedMaps s) s kind w n ls count (omega arith) e
 
   module _ (one : count ≡ 1) (h : 1 < k) where
-    only : singleLine s kind w n (take count ls) ≡ singleLine s kind w n (getD ls 0 noLine ∷ [])
+    only : singleLine (byLiftedMaps s) s kind w n (take count ls) ≡ singleLine (byLiftedMaps s) s kind w n (getD ls 0 noLine ∷ [])
     only = rw (one, one-line ls noLine (omega arith))
 
-    pub single-many : (getD ls 0 noLine .count ≡ 1 → ⊥) → false ≡ singleLine s kind w n (take count ls)
-    unfolding singleLine
+    pub single-many : (getD ls 0 noLine .count ≡ 1 → ⊥) → false ≡ singleLine (byLiftedMaps s) s kind w n (take count ls)
+    unfolding singleLine byLiftedMaps
     single-many e = sym (only ∙ rw (ne-eqb (getD ls 0 noLine .count) 1 e))
 
     module _ (e : getD ls 0 noLine .count ≡ 1) (m : Namespace) (tgt : m ≡ namespaceAt s n) (ids : Ids) (own : ids ≡ idsIn kind w) (r : Translated) (f : r ≡ toKernel s kind (m .parent) (getD ls 0 noLine .parent)) (t : Bool) (q : t ≡ isId r (ids .effective)) where
-      pub single-foreign : t ≡ false → false ≡ singleLine s kind w n (take count ls)
-      unfolding singleLine
+      pub single-foreign : t ≡ false → false ≡ singleLine (byLiftedMaps s) s kind w n (take count ls)
+      unfolding singleLine byLiftedMaps
       single-foreign y = sym (only ∙ rw (eq-eqb (getD ls 0 noLine .count) 1 e, ← tgt, ← f, ← own, ← q, y))
 
-      pub single-unowned : t ≡ true → (w .users .effective ≡ m .owner → ⊥) → false ≡ singleLine s kind w n (take count ls)
-      unfolding singleLine
+      pub single-unowned : t ≡ true → (w .users .effective ≡ m .owner → ⊥) → false ≡ singleLine (byLiftedMaps s) s kind w n (take count ls)
+      unfolding singleLine byLiftedMaps
       single-unowned y z = sym (only ∙ rw (eq-eqb (getD ls 0 noLine .count) 1 e, ← tgt, ← f, ← own, ← q, y, ne-eqb (w .users .effective) (m .owner) z))
 
-      pub single-owned : (b : Bool) → t ≡ true → w .users .effective ≡ m .owner → b ≡ mayByKind kind (m .deny) → b ≡ singleLine s kind w n (take count ls)
-      unfolding singleLine
+      pub single-owned : (b : Bool) → t ≡ true → w .users .effective ≡ m .owner → b ≡ mayByKind kind (m .deny) → b ≡ singleLine (byLiftedMaps s) s kind w n (take count ls)
+      unfolding singleLine byLiftedMaps
       single-owned b y z p = p ∙ sym (only ∙ rw (eq-eqb (getD ls 0 noLine .count) 1 e, ← tgt, ← f, ← own, ← q, y, eq-eqb (w .users .effective) (m .owner) z))
 
 -- ---- may_map
-module _ (s : State) (kind : Kind) (w : Process) (n : ℕ) (ls : List Line) (m : Namespace) (tgt : m ≡ namespaceAt s n) (k : ℕ) (num : k ≡ setIdOf kind) (t : Bool) (q : t ≡ capableIn s w (m .parent) k) where
-  pub may-capable : t ≡ true → true ≡ mayMap s kind w n ls
+module _ (by : Translation) (s : State) (kind : Kind) (w : Process) (n : ℕ) (ls : List Line) (m : Namespace) (tgt : m ≡ namespaceAt s n) (k : ℕ) (num : k ≡ setIdOf kind) (t : Bool) (q : t ≡ capableIn s w (m .parent) k) where
+  pub may-capable : t ≡ true → true ≡ mayMap by s kind w n ls
   unfolding mayMap
   may-capable y = sym (rw (← tgt, ← num, ← q, y))
 
-  pub may-single : (b : Bool) → t ≡ false → b ≡ singleLine s kind w n ls → b ≡ mayMap s kind w n ls
+  pub may-single : (b : Bool) → t ≡ false → b ≡ singleLine by s kind w n ls → b ≡ mayMap by s kind w n ls
   unfolding mayMap
   may-single b y e = e ∙ sym (rw (← tgt, ← num, ← q, y))
 
@@ -156,12 +157,12 @@ lines-some (some ls) k e =
     (ap some (sym f), ap length f ∙ h, ap padded (sym f))
 
 -- ---- write_lines
-module _ (l text : List ℕ) (kind : Kind) (w : Process) (n : ℕ) (r : MapText) (f : r ≡ mapText (mapLines text)) where
-  pub lines-bad : r .parsed ≡ Bad → Promise (Refused EINVAL) l l (writeLinesTo (tablesOf l) kind w n text)
+module _ (by : Translation) (l text : List ℕ) (kind : Kind) (w : Process) (n : ℕ) (r : MapText) (f : r ≡ mapText (mapLines text)) where
+  pub lines-bad : r .parsed ≡ Bad → Promise (Refused EINVAL) l l (writeLinesTo by (tablesOf l) kind w n text)
   unfolding writeLinesTo
   lines-bad e =
       let z = bad-none (mapLines text) (rw f at e) in
-      refuses EINVAL l (writeLinesTo (tablesOf l) kind w n text) (sym (rw z))
+      refuses EINVAL l (writeLinesTo by (tablesOf l) kind w n text) (sym (rw z))
 
   module _ (k : ℕ) (v : r .parsed ≡ Lines k) where
     read-lines : mapLines text ≡ some (take k (r .lines))
@@ -173,28 +174,28 @@ module _ (l text : List ℕ) (kind : Kind) (w : Process) (n : ℕ) (r : MapText)
         (let h = lines-some (mapLines text) k (rw f at v) in
         λ i. record { state = Written (sym (h .1) i); lines = h .2 i })
 
-    module _ (t : Bool) (q : t ≡ mayMap (tablesOf l) kind w n (take k (r .lines))) where
-      pub lines-denied : t ≡ false → Promise (Refused EPERM) l l (writeLinesTo (tablesOf l) kind w n text)
+    module _ (t : Bool) (q : t ≡ mayMap by (tablesOf l) kind w n (take k (r .lines))) where
+      pub lines-denied : t ≡ false → Promise (Refused EPERM) l l (writeLinesTo by (tablesOf l) kind w n text)
       unfolding writeLinesTo
-      lines-denied y = refuses EPERM l (writeLinesTo (tablesOf l) kind w n text) (sym (rw (read-lines, ← q, y)))
+      lines-denied y = refuses EPERM l (writeLinesTo by (tablesOf l) kind w n text) (sym (rw (read-lines, ← q, y)))
 
       module _ (y : t ≡ true) (m : Namespace) (tgt : m ≡ namespaceAt (tablesOf l) n) (ws : List ℕ) (above : linesIn ws ≡ linesOf (mapIn kind (namespaceAt (tablesOf l) (m .parent)))) (u : Bool) (g : u ≡ allCovered (linesIn ws) (take k (r .lines))) where
         cover-is : u ≡ allCovered (linesOf (mapIn kind (namespaceAt (tablesOf l) (m .parent)))) (take k (r .lines))
         cover-is = rw above at g
 
-        pub lines-uncovered : u ≡ false → Promise (Refused EPERM) l l (writeLinesTo (tablesOf l) kind w n text)
+        pub lines-uncovered : u ≡ false → Promise (Refused EPERM) l l (writeLinesTo by (tablesOf l) kind w n text)
         unfolding writeLinesTo
-        lines-uncovered z = refuses EPERM l (writeLinesTo (tablesOf l) kind w n text) (sym (rw (read-lines, ← q, y, ← tgt, ← cover-is, z)))
+        lines-uncovered z = refuses EPERM l (writeLinesTo by (tablesOf l) kind w n text) (sym (rw (read-lines, ← q, y, ← tgt, ← cover-is, z)))
 
         pub lines-done : (new : Namespace) (l′ l″ lifted : List ℕ) (ls : List Line) (b : ℕ) → u ≡ true
             → ls ≡ liftedAt (tablesOf l) kind (m .parent) .lines → b ≡ liftedAt (tablesOf l) kind (m .parent) .base
             → liftedIn lifted ≡ liftedOf (record { base = b; lines = ls }) (m .parent) (take k (r .lines))
             → new ≡ withMap kind m (record { state = Written k; lines = r .lines })
             → tablesOf l′ ≡ putNamespace (tablesOf l) n new → tablesOf l″ ≡ putLiftedMap (tablesOf l′) kind n (liftedIn lifted)
-            → Promise Done l l″ (writeLinesTo (tablesOf l) kind w n text)
+            → Promise Done l l″ (writeLinesTo by (tablesOf l) kind w n text)
         unfolding writeLinesTo mappedTables
         lines-done new l′ l″ lifted ls b z high low c e p p′ =
-            answers Done l l″ (writeLinesTo (tablesOf l) kind w n text) refl
+            answers Done l l″ (writeLinesTo by (tablesOf l) kind w n text) refl
             (rw (read-lines, ← q, y, ← tgt, ← cover-is, z, p′, p, e, read-map, c, high, low))
 
 -- ---- write_to
@@ -202,54 +203,54 @@ module _ (l text : List ℕ) (kind : Kind) (w : Process) (n : ℕ) (r : MapText)
 promised : (r : Answer) (l l′ : List ℕ) (o o′ : Outcome) → o ≡ o′ → Promise r l l′ o → Promise r l l′ o′
 promised r l l′ o o′ e p = record { outcome = p .outcome ∙ e; kept = p .kept }
 
-module _ (l text : List ℕ) (kind : Kind) (w : Process) (n : ℕ) where
-  pub to-initial : n ≡ 0 → Promise (Refused EPERM) l l (writeMapTo (tablesOf l) kind w n text)
+module _ (by : Translation) (l text : List ℕ) (kind : Kind) (w : Process) (n : ℕ) where
+  pub to-initial : n ≡ 0 → Promise (Refused EPERM) l l (writeMapTo by (tablesOf l) kind w n text)
   unfolding writeMapTo
-  to-initial e = refuses EPERM l (writeMapTo (tablesOf l) kind w n text) (sym (rw (eq-eqb n 0 e)))
+  to-initial e = refuses EPERM l (writeMapTo by (tablesOf l) kind w n text) (sym (rw (eq-eqb n 0 e)))
 
   module _ (z : n ≡ 0 → ⊥) (t : Bool) (q : t ≡ isNear (tablesOf l) w n) where
-    pub to-far : t ≡ false → Promise (Refused EPERM) l l (writeMapTo (tablesOf l) kind w n text)
+    pub to-far : t ≡ false → Promise (Refused EPERM) l l (writeMapTo by (tablesOf l) kind w n text)
     unfolding writeMapTo
-    to-far y = refuses EPERM l (writeMapTo (tablesOf l) kind w n text) (sym (rw (ne-eqb n 0 z, ← q, y)))
+    to-far y = refuses EPERM l (writeMapTo by (tablesOf l) kind w n text) (sym (rw (ne-eqb n 0 z, ← q, y)))
 
     module _ (y : t ≡ true) where
-      pub to-empty : length text ≡ 0 → Promise (Refused EINVAL) l l (writeMapTo (tablesOf l) kind w n text)
+      pub to-empty : length text ≡ 0 → Promise (Refused EINVAL) l l (writeMapTo by (tablesOf l) kind w n text)
       unfolding writeMapTo
-      to-empty e = refuses EINVAL l (writeMapTo (tablesOf l) kind w n text) (sym (rw (ne-eqb n 0 z, ← q, y, eq-eqb (length text) 0 e)))
+      to-empty e = refuses EINVAL l (writeMapTo by (tablesOf l) kind w n text) (sym (rw (ne-eqb n 0 z, ← q, y, eq-eqb (length text) 0 e)))
 
       module _ (e : length text ≡ 0 → ⊥) where
-        pub to-long : 4095 < length text → Promise (Refused EINVAL) l l (writeMapTo (tablesOf l) kind w n text)
+        pub to-long : 4095 < length text → Promise (Refused EINVAL) l l (writeMapTo by (tablesOf l) kind w n text)
         unfolding writeMapTo
-        to-long h = refuses EINVAL l (writeMapTo (tablesOf l) kind w n text) (sym (rw (ne-eqb n 0 z, ← q, y, ne-eqb (length text) 0 e, lt-ltb 4095 (length text) h)))
+        to-long h = refuses EINVAL l (writeMapTo by (tablesOf l) kind w n text) (sym (rw (ne-eqb n 0 z, ← q, y, ne-eqb (length text) 0 e, lt-ltb 4095 (length text) h)))
 
         module _ (h : length text ≤ 4095) (m : Namespace) (tgt : m ≡ namespaceAt (tablesOf l) n) (map : IdMap) (own : map ≡ mapIn kind m) (u : Bool) (g : u ≡ isWritten (map .state)) where
-          pub to-written : u ≡ true → Promise (Refused EPERM) l l (writeMapTo (tablesOf l) kind w n text)
+          pub to-written : u ≡ true → Promise (Refused EPERM) l l (writeMapTo by (tablesOf l) kind w n text)
           unfolding writeMapTo
-          to-written x = refuses EPERM l (writeMapTo (tablesOf l) kind w n text) (sym (rw (ne-eqb n 0 z, ← q, y, ne-eqb (length text) 0 e, le-ltb 4095 (length text) h, ← tgt, ← own, ← g, x)))
+          to-written x = refuses EPERM l (writeMapTo by (tablesOf l) kind w n text) (sym (rw (ne-eqb n 0 z, ← q, y, ne-eqb (length text) 0 e, le-ltb 4095 (length text) h, ← tgt, ← own, ← g, x)))
 
           module _ (x : u ≡ false) (k : ℕ) (num : k ≡ setIdOf kind) (b : Bool) (c : b ≡ capableIn (tablesOf l) w n k) where
-            pub to-denied : b ≡ false → Promise (Refused EPERM) l l (writeMapTo (tablesOf l) kind w n text)
+            pub to-denied : b ≡ false → Promise (Refused EPERM) l l (writeMapTo by (tablesOf l) kind w n text)
             unfolding writeMapTo
-            to-denied d = refuses EPERM l (writeMapTo (tablesOf l) kind w n text) (sym (rw (ne-eqb n 0 z, ← q, y, ne-eqb (length text) 0 e, le-ltb 4095 (length text) h, ← tgt, ← own, ← g, x, ← num, ← c, d)))
+            to-denied d = refuses EPERM l (writeMapTo by (tablesOf l) kind w n text) (sym (rw (ne-eqb n 0 z, ← q, y, ne-eqb (length text) 0 e, le-ltb 4095 (length text) h, ← tgt, ← own, ← g, x, ← num, ← c, d)))
 
-            pub to-lines : (r : Answer) (l′ : List ℕ) → b ≡ true → Promise r l l′ (writeLinesTo (tablesOf l) kind w n text) → Promise r l l′ (writeMapTo (tablesOf l) kind w n text)
+            pub to-lines : (r : Answer) (l′ : List ℕ) → b ≡ true → Promise r l l′ (writeLinesTo by (tablesOf l) kind w n text) → Promise r l l′ (writeMapTo by (tablesOf l) kind w n text)
             unfolding writeMapTo
-            to-lines r l′ d p = promised r l l′ (writeLinesTo (tablesOf l) kind w n text) (writeMapTo (tablesOf l) kind w n text) (sym (rw (ne-eqb n 0 z, ← q, y, ne-eqb (length text) 0 e, le-ltb 4095 (length text) h, ← tgt, ← own, ← g, x, ← num, ← c, d))) p
+            to-lines r l′ d p = promised r l l′ (writeLinesTo by (tablesOf l) kind w n text) (writeMapTo by (tablesOf l) kind w n text) (sym (rw (ne-eqb n 0 z, ← q, y, ne-eqb (length text) 0 e, le-ltb 4095 (length text) h, ← tgt, ← own, ← g, x, ← num, ← c, d))) p
 
 -- ---- write_map
-module _ (l text : List ℕ) (kind : Kind) (c name : ℕ) (r : Found) (f : r ≡ processNamed (tablesOf l) c) where
-  pub write-no-caller : r ≡ Nothing → Promise (Refused ESRCH) l l (writeMapOf (tablesOf l) kind c name text)
+module _ (by : Translation) (l text : List ℕ) (kind : Kind) (c name : ℕ) (r : Found) (f : r ≡ processNamed (tablesOf l) c) where
+  pub write-no-caller : r ≡ Nothing → Promise (Refused ESRCH) l l (writeMapOf by (tablesOf l) kind c name text)
   unfolding writeMapOf
-  write-no-caller n = refuses ESRCH l (writeMapOf (tablesOf l) kind c name text) (sym (rw (sym f ∙ n)))
+  write-no-caller n = refuses ESRCH l (writeMapOf by (tablesOf l) kind c name text) (sym (rw (sym f ∙ n)))
 
   module _ (i : ℕ) (v : r ≡ At i) (q : Found) (g : q ≡ processNamed (tablesOf l) name) where
-    pub write-no-target : q ≡ Nothing → Promise (Refused ESRCH) l l (writeMapOf (tablesOf l) kind c name text)
+    pub write-no-target : q ≡ Nothing → Promise (Refused ESRCH) l l (writeMapOf by (tablesOf l) kind c name text)
     unfolding writeMapOf
-    write-no-target n = refuses ESRCH l (writeMapOf (tablesOf l) kind c name text) (sym (rw (sym f ∙ v, sym g ∙ n)))
+    write-no-target n = refuses ESRCH l (writeMapOf by (tablesOf l) kind c name text) (sym (rw (sym f ∙ v, sym g ∙ n)))
 
-    pub write-found : (j : ℕ) (w p : Process) (a : Answer) (l′ : List ℕ) → q ≡ At j → w ≡ processAt (tablesOf l) i → p ≡ processAt (tablesOf l) j → Promise a l l′ (writeMapTo (tablesOf l) kind w (p .namespace) text) → Promise a l l′ (writeMapOf (tablesOf l) kind c name text)
+    pub write-found : (j : ℕ) (w p : Process) (a : Answer) (l′ : List ℕ) → q ≡ At j → w ≡ processAt (tablesOf l) i → p ≡ processAt (tablesOf l) j → Promise a l l′ (writeMapTo by (tablesOf l) kind w (p .namespace) text) → Promise a l l′ (writeMapOf by (tablesOf l) kind c name text)
     unfolding writeMapOf
-    write-found j w p a l′ u d e b = promised a l l′ (writeMapTo (tablesOf l) kind w (p .namespace) text) (writeMapOf (tablesOf l) kind c name text) (sym (rw (sym f ∙ v, sym g ∙ u, ← d, ← e))) b
+    write-found j w p a l′ u d e b = promised a l l′ (writeMapTo by (tablesOf l) kind w (p .namespace) text) (writeMapOf by (tablesOf l) kind c name text) (sym (rw (sym f ∙ v, sym g ∙ u, ← d, ← e))) b
 
 pub ruleset tests = (
   near-in,

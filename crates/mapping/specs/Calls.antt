@@ -14,7 +14,6 @@ use Rattle.idmap.specs.Lookup.{orNoId}
 use Rattle.idmap.specs.Cover.{coveredOf}
 use Rattle.idmap.specs.Text.{mapLines, padded}
 use Rattle.idmap.specs.Show.{linesText}
-use Rattle.lifted_map.specs.Lift.{liftedOf}
 use Rattle.records.specs.declared.Kind.{Kind}
 use Rattle.records.specs.declared.Kind.the-variants.{User, Group}
 use Rattle.records.specs.declared.MapState.{MapState}
@@ -23,12 +22,13 @@ use Rattle.records.specs.declared.IdMap.{IdMap}
 use Rattle.records.specs.declared.Process.{Process}
 use Rattle.records.specs.declared.Namespace.{Namespace}
 use Rattle.records.specs.Records.{idsIn, mapIn, setIdOf, isWritten, linesOf}
-use Rattle.tables.specs.Tables.{State, processAt, namespaceAt, liftedAt, putNamespace, putLiftedMap}
+use Rattle.tables.specs.Tables.{State, processAt, namespaceAt, putNamespace}
 use Rattle.tables.specs.Find.{processNamed}
 use Rattle.tables.specs.Reply.{Reply, refused, done, bytes, Outcome, refuse, onFound, when, unless}
 use Rattle.mapping.specs.declared.setgroups.Setting.{Setting}
 use Rattle.mapping.specs.declared.setgroups.Setting.the-variants.{Deny, Allow, Neither}
-use Rattle.hierarchy.specs.Walks.{toKernel, fromKernel, capableIn}
+use Rattle.hierarchy.specs.Walks.{Translation, capableIn}
+use Rattle.hierarchy.specs.Lifted.{beside}
 
 -- ---- map write
 -- the writer is in namespace n or in its parent
@@ -45,17 +45,17 @@ abbrev pub mayByKind : Kind → Bool → Bool
 mayByKind User deny = true
 mayByKind Group deny = deny
 
-unfoldable pub singleLine : State → Kind → Process → ℕ → List Line → Bool
-singleLine s kind w n [] = false
-singleLine s kind w n (l ∷ []) =
+unfoldable pub singleLine : Translation → State → Kind → Process → ℕ → List Line → Bool
+singleLine by s kind w n [] = false
+singleLine by s kind w n (l ∷ []) =
     eqb (l .count) 1
-    && (isId (toKernel s kind (namespaceAt s n .parent) (l .parent)) (idsIn kind w .effective)
+    && (isId (by .out kind (namespaceAt s n .parent) (l .parent)) (idsIn kind w .effective)
     && (eqb (w .users .effective) (namespaceAt s n .owner) && mayByKind kind (namespaceAt s n .deny)))
-singleLine s kind w n (l ∷ m ∷ ls) = false
+singleLine by s kind w n (l ∷ m ∷ ls) = false
 
 -- the writer has the capability in the parent, or the single line is its own
-unfoldable pub mayMap : State → Kind → Process → ℕ → List Line → Bool
-mayMap s kind w n ls = capableIn s w (namespaceAt s n .parent) (setIdOf kind) || singleLine s kind w n ls
+unfoldable pub mayMap : Translation → State → Kind → Process → ℕ → List Line → Bool
+mayMap by s kind w n ls = capableIn s w (namespaceAt s n .parent) (setIdOf kind) || singleLine by s kind w n ls
 
 -- each parent-side ID has a line in the parent's map
 unfoldable pub allCovered : List Line → List Line → Bool
@@ -73,33 +73,33 @@ abbrev pub thenLines : {A : Type 0} → Option (List Line) → A → (List Line 
 thenLines none other next = other
 thenLines (some ls) other next = next ls
 
--- what a write stores: the map, and the same lifted over the lifted map of the parent
+-- what a write stores: the map, and what the code keeps beside it
 unfoldable pub mappedTables : State → Kind → ℕ → List Line → State
 mappedTables s kind n ls =
-    putLiftedMap (putNamespace s n (withMap kind (namespaceAt s n) (writtenMap ls))) kind n (liftedOf (liftedAt s kind (namespaceAt s n .parent)) (namespaceAt s n .parent) ls)
+    beside s (putNamespace s n (withMap kind (namespaceAt s n) (writtenMap ls))) kind n ls
 
 -- the lines of the text, the writer's right to them, and their cover; then the map is stored
-unfoldable pub writeLinesTo : State → Kind → Process → ℕ → List ℕ → Outcome
-writeLinesTo s kind w n text =
+unfoldable pub writeLinesTo : Translation → State → Kind → Process → ℕ → List ℕ → Outcome
+writeLinesTo by s kind w n text =
     thenLines (mapLines text) (refuse s 22) (λ ls.
-    unless (mayMap s kind w n ls) (refuse s 1)
+    unless (mayMap by s kind w n ls) (refuse s 1)
     (unless (allCovered (linesOf (mapIn kind (namespaceAt s (namespaceAt s n .parent)))) ls) (refuse s 1)
     (record { reply = done; tables = mappedTables s kind n ls })))
 
 -- the write to namespace n by process w
-unfoldable pub writeMapTo : State → Kind → Process → ℕ → List ℕ → Outcome
-writeMapTo s kind w n text =
+unfoldable pub writeMapTo : Translation → State → Kind → Process → ℕ → List ℕ → Outcome
+writeMapTo by s kind w n text =
     when (eqb n 0) (refuse s 1)
     (unless (isNear s w n) (refuse s 1)
     (when (eqb (length text) 0) (refuse s 22)
     (when (ltb 4095 (length text)) (refuse s 22)
     (when (isWritten (mapIn kind (namespaceAt s n) .state)) (refuse s 1)
-    (unless (capableIn s w n (setIdOf kind)) (refuse s 1) (writeLinesTo s kind w n text))))))
+    (unless (capableIn s w n (setIdOf kind)) (refuse s 1) (writeLinesTo by s kind w n text))))))
 
-unfoldable pub writeMapOf : State → Kind → ℕ → ℕ → List ℕ → Outcome
-writeMapOf s kind c name text =
+unfoldable pub writeMapOf : Translation → State → Kind → ℕ → ℕ → List ℕ → Outcome
+writeMapOf by s kind c name text =
     onFound (processNamed s c) (refuse s 3) (λ w.
-    onFound (processNamed s name) (refuse s 3) (λ p. writeMapTo s kind (processAt s w) (processAt s p .namespace) text))
+    onFound (processNamed s name) (refuse s 3) (λ p. writeMapTo by s kind (processAt s w) (processAt s p .namespace) text))
 
 -- ---- setgroups file write
 -- the bytes of "allow" and "deny"
@@ -163,15 +163,15 @@ readText text buffer = record { reply = cond (fitsAt buffer 0 text) (bytes (leng
 unfoldable pub viewOf : State → Process → ℕ → ℕ
 viewOf s r n = cond (eqb (r .namespace) n) (namespaceAt s n .parent) (r .namespace)
 
--- the start of a line's parent side, of a map of namespace n, as namespace v sees it; 4294967295 if it has none
-abbrev pub seenStart : State → Kind → ℕ → ℕ → Translated → ℕ
-seenStart s kind n v (Id x) = orNoId (fromKernel s kind v x)
-seenStart s kind n v Unmapped = noId
+-- the start of a line's parent side as namespace v sees it; 4294967295 if it has none
+abbrev pub seenStart : Translation → Kind → ℕ → Translated → ℕ
+seenStart by kind v (Id x) = orNoId (by .back kind v x)
+seenStart by kind v Unmapped = noId
 
-unfoldable pub shownLine : State → Kind → ℕ → ℕ → Line → Line
-shownLine s kind n v l = record {
+unfoldable pub shownLine : Translation → State → Kind → ℕ → ℕ → Line → Line
+shownLine by s kind n v l = record {
   inside = l .inside;
-  parent = seenStart s kind n v (toKernel s kind (namespaceAt s n .parent) (l .parent));
+  parent = seenStart by kind v (by .out kind (namespaceAt s n .parent) (l .parent));
   count = l .count;
 }
 
@@ -181,14 +181,14 @@ lineCount Unwritten = 0
 lineCount (Written n) = min n maxLines
 
 -- the text of a map of namespace n, as namespace v sees it: lines in the order written
-unfoldable pub mapTextOf : State → Kind → ℕ → ℕ → List ℕ
-mapTextOf s kind n v = linesText (map (shownLine s kind n v) (linesOf (mapIn kind (namespaceAt s n))))
+unfoldable pub mapTextOf : Translation → State → Kind → ℕ → ℕ → List ℕ
+mapTextOf by s kind n v = linesText (map (shownLine by s kind n v) (linesOf (mapIn kind (namespaceAt s n))))
 
-unfoldable pub readMapOf : State → Kind → ℕ → ℕ → List ℕ → ReadOutcome
-readMapOf s kind c name buffer =
+unfoldable pub readMapOf : Translation → State → Kind → ℕ → ℕ → List ℕ → ReadOutcome
+readMapOf by s kind c name buffer =
     onFound (processNamed s c) (record { reply = refused 3; buffer = buffer }) (λ r.
     onFound (processNamed s name) (record { reply = refused 3; buffer = buffer }) (λ p.
-    readText (mapTextOf s kind (processAt s p .namespace) (viewOf s (processAt s r) (processAt s p .namespace))) buffer))
+    readText (mapTextOf by s kind (processAt s p .namespace) (viewOf s (processAt s r) (processAt s p .namespace))) buffer))
 
 unfoldable pub settingText : Bool → List ℕ
 settingText deny = cond deny denyText allowText ++ (10 ∷ [])

@@ -8,6 +8,7 @@ ghost use Rattle.idmap.specs.Good.{maxLines};
 ghost use Rattle.idmap.specs.Show.{linesText};
 ghost use Rattle.tables.specs.Tables.{tablesOf};
 ghost use Rattle.tables.specs.Reply.{replyOf};
+ghost use Rattle.hierarchy.specs.Lifted.{quick};
 ghost use Rattle.mapping.specs.Calls.{viewOf, shownLine, ReadOutcome, readText, lineCount, readMapOf, readSetgroupsOf};
 use hierarchy::translate::from_kernel;
 use hierarchy::translate::to_kernel;
@@ -44,7 +45,7 @@ fn view(t: &Tables, reader: Process, n: u64) -> u64
 
 // A line of a map of namespace `n` as namespace `v` sees it.
 fn shown(t: &Tables, kind: Kind, n: u64, v: u64, l: Line) -> Line
-    ensures { λ r. ⌜ r ≡ shownLine (tablesOf (now (t .entry))) kind n v l ⌝ }
+    ensures { λ r. ⌜ r ≡ quick shownLine (tablesOf (now (t .entry))) kind n v l ⌝ }
 {
     let target = namespace_at(t, n as usize);
     let start = to_kernel(t, kind, target.parent, l.parent);
@@ -84,7 +85,7 @@ fn put_lines(
     buffer: &mut [u8],
 )
     requires { ⌜ (count ≤ maxLines) × (count * 33 ≤ length (now buffer)) ⌝ }
-    ensures { λ r. ⌜ now (buffer .exit) ≡ putAt (now (buffer .entry)) 0 (linesText (map (shownLine (tablesOf (now (t .entry))) kind n v) (take count lines))) ⌝ }
+    ensures { λ r. ⌜ now (buffer .exit) ≡ putAt (now (buffer .entry)) 0 (linesText (map (quick shownLine (tablesOf (now (t .entry))) kind n v) (take count lines))) ⌝ }
 {
     let mut i: usize = 0;
     while i < count {
@@ -98,7 +99,7 @@ fn put_lines(
 // buffer shorter than the text.
 // Ruled out, for instance: field two in the target itself; 32 bytes of room for a line of 33.
 pub fn read_map(t: &Tables, kind: Kind, caller: u64, name: u64, buffer: &mut [u8]) -> Answer
-    ensures { λ r. ⌜ _≡_ {A = ReadOutcome} (record { reply = replyOf r; buffer = now (buffer .exit) }) (readMapOf (tablesOf (now (t .entry))) kind caller name (now (buffer .entry))) ⌝ }
+    ensures { λ r. ⌜ _≡_ {A = ReadOutcome} (record { reply = replyOf r; buffer = now (buffer .exit) }) (quick readMapOf (tablesOf (now (t .entry))) kind caller name (now (buffer .entry))) ⌝ }
 {
     let Found::At(reader) = find_process(t, caller) else {
         return Answer::Refused(Errno::ESRCH);

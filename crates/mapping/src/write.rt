@@ -4,6 +4,7 @@ ghost use lib.ListN.{take};
 ghost use Rattle.idmap.specs.Line.{linesIn};
 ghost use Rattle.tables.specs.Tables.{tablesOf};
 ghost use Rattle.tables.specs.Reply.{Promise};
+ghost use Rattle.hierarchy.specs.Lifted.{quick};
 ghost use Rattle.mapping.specs.Calls.{isNear, isId, mayByKind, singleLine, mayMap, allCovered, withMap, writeLinesTo, writeMapTo, writeMapOf};
 use hierarchy::capable::capable;
 use hierarchy::translate::to_kernel;
@@ -76,7 +77,7 @@ fn single_line(
     lines: [Line; MAX_LINES],
     count: usize,
 ) -> bool
-    ensures { λ r. ⌜ r ≡ singleLine (tablesOf (now (t .entry))) kind w n (take count lines) ⌝ }
+    ensures { λ r. ⌜ r ≡ quick singleLine (tablesOf (now (t .entry))) kind w n (take count lines) ⌝ }
 {
     if count == 1 {} else {
         return false;
@@ -108,7 +109,7 @@ fn may_map(
     lines: [Line; MAX_LINES],
     count: usize,
 ) -> bool
-    ensures { λ r. ⌜ r ≡ mayMap (tablesOf (now (t .entry))) kind w n (take count lines) ⌝ }
+    ensures { λ r. ⌜ r ≡ quick mayMap (tablesOf (now (t .entry))) kind w n (take count lines) ⌝ }
 {
     let target = namespace_at(t, n as usize);
     if capable(t, w, target.parent, set_id(kind)) {
@@ -166,7 +167,7 @@ fn with_map(kind: Kind, n: Namespace, map: IdMap) -> Namespace
 
 // The text read, the writer's right to those lines and their cover tested, and the map stored.
 fn write_lines(t: &mut Tables, kind: Kind, w: Process, n: u64, text: &[u8]) -> Answer
-    ensures { λ r. ⌜ Promise r (now (t .entry)) (now (t .exit)) (writeLinesTo (tablesOf (now (t .entry))) kind w n (now (text .entry))) ⌝ }
+    ensures { λ r. ⌜ Promise r (now (t .entry)) (now (t .exit)) (quick writeLinesTo (tablesOf (now (t .entry))) kind w n (now (text .entry))) ⌝ }
 {
     let read = read_map(text);
     let parsed = read.parsed;
@@ -197,7 +198,7 @@ fn write_lines(t: &mut Tables, kind: Kind, w: Process, n: u64, text: &[u8]) -> A
 
 // The write to namespace `n` by process `w`, in the order in which it refuses.
 fn write_to(t: &mut Tables, kind: Kind, w: Process, n: u64, text: &[u8]) -> Answer
-    ensures { λ r. ⌜ Promise r (now (t .entry)) (now (t .exit)) (writeMapTo (tablesOf (now (t .entry))) kind w n (now (text .entry))) ⌝ }
+    ensures { λ r. ⌜ Promise r (now (t .entry)) (now (t .exit)) (quick writeMapTo (tablesOf (now (t .entry))) kind w n (now (text .entry))) ⌝ }
 {
     if n == 0 {
         return Answer::Refused(Errno::EPERM);
@@ -230,7 +231,7 @@ fn write_to(t: &mut Tables, kind: Kind, w: Process, n: u64, text: &[u8]) -> Answ
 // parent-side ID without a line in the parent's map.
 // Ruled out, for instance: a map stored with IDs that the parent does not map; an empty text told before a writer from elsewhere.
 pub fn write_map(t: &mut Tables, kind: Kind, caller: u64, name: u64, text: &[u8]) -> Answer
-    ensures { λ r. ⌜ Promise r (now (t .entry)) (now (t .exit)) (writeMapOf (tablesOf (now (t .entry))) kind caller name (now (text .entry))) ⌝ }
+    ensures { λ r. ⌜ Promise r (now (t .entry)) (now (t .exit)) (quick writeMapOf (tablesOf (now (t .entry))) kind caller name (now (text .entry))) ⌝ }
 {
     let Found::At(writer) = find_process(t, caller) else {
         return Answer::Refused(Errno::ESRCH);

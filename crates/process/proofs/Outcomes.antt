@@ -23,17 +23,18 @@ use Rattle.tables.specs.Tables.{State, tablesOf, processAt, namespaceAt, putPro
 use Rattle.tables.specs.Find.{processNamed, namespaceNamed, freeProcessPlace, freeNamespacePlace}
 use Rattle.tables.specs.Reply.{Promise}
 use Rattle.tables.proofs.Promises.{refuses, answers, free-process-below}
-use Rattle.hierarchy.specs.Walks.{fromKernel, capableIn}
+use Rattle.hierarchy.specs.Walks.{Translation, capableIn}
+use Rattle.hierarchy.specs.Lifted.{fromKernel, byLiftedMaps}
 use Rattle.process.specs.Calls.{sysAdmin, forkOf, isMapped, knowsItself, below, entered, cloneOf, unshareOf, setnsOf}
 
 -- ---- knows_itself
 module _ (s : State) (p : Process) (u : Translated) (m : Bool) (f : u ≡ fromKernel s User (p .namespace) (p .users .effective)) (e : m ≡ isMapped u) where
-  pub knows-user : (g : Translated) (k : Bool) → m ≡ true → g ≡ fromKernel s Group (p .namespace) (p .groups .effective) → k ≡ isMapped g → k ≡ knowsItself s p
-  unfolding knowsItself
+  pub knows-user : (g : Translated) (k : Bool) → m ≡ true → g ≡ fromKernel s Group (p .namespace) (p .groups .effective) → k ≡ isMapped g → k ≡ knowsItself (byLiftedMaps s) p
+  unfolding knowsItself byLiftedMaps
   knows-user g k t h q = q ∙ rw (← f, ← e, t, ← h)
 
-  pub knows-no-user : m ≡ false → false ≡ knowsItself s p
-  unfolding knowsItself
+  pub knows-no-user : m ≡ false → false ≡ knowsItself (byLiftedMaps s) p
+  unfolding knowsItself byLiftedMaps
   knows-no-user t = rw (← f, ← e, t)
 
 -- ---- member, child_namespace
@@ -64,59 +65,59 @@ module _ (l : List ℕ) (c : ℕ) (r : Found) (f : r ≡ processNamed (tablesOf 
     unfolding forkOf
     fork-done j p l′ w e k = answers (Child (j + 1)) l l′ (forkOf (tablesOf l) c) refl (rw (sym f ∙ v, sym g ∙ w, k, e))
 
--- ---- clone and unshare
-module _ (l : List ℕ) (c : ℕ) (r : Found) (f : r ≡ processNamed (tablesOf l) c) where
-  pub clone-no-caller : r ≡ Nothing → Promise (Refused ESRCH) l l (cloneOf (tablesOf l) c)
+-- ---- clone and unshare, by any translation
+module _ (by : Translation) (l : List ℕ) (c : ℕ) (r : Found) (f : r ≡ processNamed (tablesOf l) c) where
+  pub clone-no-caller : r ≡ Nothing → Promise (Refused ESRCH) l l (cloneOf by (tablesOf l) c)
   unfolding cloneOf
-  clone-no-caller n = refuses ESRCH l (cloneOf (tablesOf l) c) (sym (rw (sym f ∙ n)))
+  clone-no-caller n = refuses ESRCH l (cloneOf by (tablesOf l) c) (sym (rw (sym f ∙ n)))
 
-  pub unshare-no-caller : r ≡ Nothing → Promise (Refused ESRCH) l l (unshareOf (tablesOf l) c)
+  pub unshare-no-caller : r ≡ Nothing → Promise (Refused ESRCH) l l (unshareOf by (tablesOf l) c)
   unfolding unshareOf
-  unshare-no-caller n = refuses ESRCH l (unshareOf (tablesOf l) c) (sym (rw (sym f ∙ n)))
+  unshare-no-caller n = refuses ESRCH l (unshareOf by (tablesOf l) c) (sym (rw (sym f ∙ n)))
 
   module _ (i : ℕ) (v : r ≡ At i) (p : Process) (e : p ≡ processAt (tablesOf l) i) (own : Namespace) (o : own ≡ namespaceAt (tablesOf l) (p .namespace)) where
-    pub clone-deep : 32 ≤ own .level → Promise (Refused EUSERS) l l (cloneOf (tablesOf l) c)
+    pub clone-deep : 32 ≤ own .level → Promise (Refused EUSERS) l l (cloneOf by (tablesOf l) c)
     unfolding cloneOf
-    clone-deep h = refuses EUSERS l (cloneOf (tablesOf l) c) (sym (rw (sym f ∙ v, ← e, ← o, le-leb 32 (own .level) h)))
+    clone-deep h = refuses EUSERS l (cloneOf by (tablesOf l) c) (sym (rw (sym f ∙ v, ← e, ← o, le-leb 32 (own .level) h)))
 
-    pub unshare-deep : 32 ≤ own .level → Promise (Refused EUSERS) l l (unshareOf (tablesOf l) c)
+    pub unshare-deep : 32 ≤ own .level → Promise (Refused EUSERS) l l (unshareOf by (tablesOf l) c)
     unfolding unshareOf
-    unshare-deep h = refuses EUSERS l (unshareOf (tablesOf l) c) (sym (rw (sym f ∙ v, ← e, ← o, le-leb 32 (own .level) h)))
+    unshare-deep h = refuses EUSERS l (unshareOf by (tablesOf l) c) (sym (rw (sym f ∙ v, ← e, ← o, le-leb 32 (own .level) h)))
 
-    module _ (h : own .level < 32) (k : Bool) (m : k ≡ knowsItself (tablesOf l) p) where
-      pub clone-unmapped : k ≡ false → Promise (Refused EPERM) l l (cloneOf (tablesOf l) c)
+    module _ (h : own .level < 32) (k : Bool) (m : k ≡ knowsItself by p) where
+      pub clone-unmapped : k ≡ false → Promise (Refused EPERM) l l (cloneOf by (tablesOf l) c)
       unfolding cloneOf
-      clone-unmapped t = refuses EPERM l (cloneOf (tablesOf l) c) (sym (rw (sym f ∙ v, ← e, ← o, lt-leb 32 (own .level) h, ← m, t)))
+      clone-unmapped t = refuses EPERM l (cloneOf by (tablesOf l) c) (sym (rw (sym f ∙ v, ← e, ← o, lt-leb 32 (own .level) h, ← m, t)))
 
-      pub unshare-unmapped : k ≡ false → Promise (Refused EPERM) l l (unshareOf (tablesOf l) c)
+      pub unshare-unmapped : k ≡ false → Promise (Refused EPERM) l l (unshareOf by (tablesOf l) c)
       unfolding unshareOf
-      unshare-unmapped t = refuses EPERM l (unshareOf (tablesOf l) c) (sym (rw (sym f ∙ v, ← e, ← o, lt-leb 32 (own .level) h, ← m, t)))
+      unshare-unmapped t = refuses EPERM l (unshareOf by (tablesOf l) c) (sym (rw (sym f ∙ v, ← e, ← o, lt-leb 32 (own .level) h, ← m, t)))
 
       module _ (t : k ≡ true) (a : Found) (b : a ≡ freeNamespacePlace (tablesOf l)) where
-        pub clone-no-space : a ≡ Nothing → Promise (Refused ENOSPC) l l (cloneOf (tablesOf l) c)
+        pub clone-no-space : a ≡ Nothing → Promise (Refused ENOSPC) l l (cloneOf by (tablesOf l) c)
         unfolding cloneOf
-        clone-no-space z = refuses ENOSPC l (cloneOf (tablesOf l) c) (sym (rw (sym f ∙ v, ← e, ← o, lt-leb 32 (own .level) h, ← m, t, sym b ∙ z)))
+        clone-no-space z = refuses ENOSPC l (cloneOf by (tablesOf l) c) (sym (rw (sym f ∙ v, ← e, ← o, lt-leb 32 (own .level) h, ← m, t, sym b ∙ z)))
 
-        pub unshare-no-space : a ≡ Nothing → Promise (Refused ENOSPC) l l (unshareOf (tablesOf l) c)
+        pub unshare-no-space : a ≡ Nothing → Promise (Refused ENOSPC) l l (unshareOf by (tablesOf l) c)
         unfolding unshareOf
-        unshare-no-space z = refuses ENOSPC l (unshareOf (tablesOf l) c) (sym (rw (sym f ∙ v, ← e, ← o, lt-leb 32 (own .level) h, ← m, t, sym b ∙ z)))
+        unshare-no-space z = refuses ENOSPC l (unshareOf by (tablesOf l) c) (sym (rw (sym f ∙ v, ← e, ← o, lt-leb 32 (own .level) h, ← m, t, sym b ∙ z)))
 
         module _ (n : ℕ) (w : a ≡ At n) where
-          pub clone-no-place : (q : Found) → q ≡ freeProcessPlace (tablesOf l) → q ≡ Nothing → Promise (Refused EAGAIN) l l (cloneOf (tablesOf l) c)
+          pub clone-no-place : (q : Found) → q ≡ freeProcessPlace (tablesOf l) → q ≡ Nothing → Promise (Refused EAGAIN) l l (cloneOf by (tablesOf l) c)
           unfolding cloneOf
-          clone-no-place q g z = refuses EAGAIN l (cloneOf (tablesOf l) c) (sym (rw (sym f ∙ v, ← e, ← o, lt-leb 32 (own .level) h, ← m, t, sym b ∙ w, sym g ∙ z)))
+          clone-no-place q g z = refuses EAGAIN l (cloneOf by (tablesOf l) c) (sym (rw (sym f ∙ v, ← e, ← o, lt-leb 32 (own .level) h, ← m, t, sym b ∙ w, sym g ∙ z)))
 
           module _ (new : Namespace) (x : new ≡ below p own) (l₁ : List ℕ) (y : tablesOf l₁ ≡ putNamespace (tablesOf l) n new) (in′ : Process) (z : in′ ≡ entered p n) (l₂ : List ℕ) where
-            pub clone-done : (q : Found) (j : ℕ) → q ≡ freeProcessPlace (tablesOf l) → q ≡ At j → tablesOf l₂ ≡ putProcess (tablesOf l₁) j in′ → Promise (ChildIn (j + 1) n) l l₂ (cloneOf (tablesOf l) c)
+            pub clone-done : (q : Found) (j : ℕ) → q ≡ freeProcessPlace (tablesOf l) → q ≡ At j → tablesOf l₂ ≡ putProcess (tablesOf l₁) j in′ → Promise (ChildIn (j + 1) n) l l₂ (cloneOf by (tablesOf l) c)
             unfolding cloneOf
             clone-done q j g u k =
-                answers (ChildIn (j + 1) n) l l₂ (cloneOf (tablesOf l) c) refl
+                answers (ChildIn (j + 1) n) l l₂ (cloneOf by (tablesOf l) c) refl
                 (rw (sym f ∙ v, ← e, ← o, lt-leb 32 (own .level) h, ← m, t, sym b ∙ w, sym g ∙ u, k, y, x, z))
 
-            pub unshare-done : tablesOf l₂ ≡ putProcess (tablesOf l₁) i in′ → Promise (NewNamespace n) l l₂ (unshareOf (tablesOf l) c)
+            pub unshare-done : tablesOf l₂ ≡ putProcess (tablesOf l₁) i in′ → Promise (NewNamespace n) l l₂ (unshareOf by (tablesOf l) c)
             unfolding unshareOf
             unshare-done k =
-                answers (NewNamespace n) l l₂ (unshareOf (tablesOf l) c) refl
+                answers (NewNamespace n) l l₂ (unshareOf by (tablesOf l) c) refl
                 (rw (sym f ∙ v, ← e, ← o, lt-leb 32 (own .level) h, ← m, t, sym b ∙ w, k, y, x, z))
 
 -- ---- setns

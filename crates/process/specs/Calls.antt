@@ -12,7 +12,7 @@ use Rattle.records.specs.Records.{freeMap}
 use Rattle.tables.specs.Tables.{State, processAt, namespaceAt, putProcess, putNamespace}
 use Rattle.tables.specs.Find.{processNamed, namespaceNamed, freeProcessPlace, freeNamespacePlace}
 use Rattle.tables.specs.Reply.{done, child, childIn, newNamespace, Outcome, refuse, onFound, when, unless}
-use Rattle.hierarchy.specs.Walks.{fromKernel, capableIn}
+use Rattle.hierarchy.specs.Walks.{Translation, capableIn}
 
 -- document 01: SYS_ADMIN
 abbrev pub sysAdmin : ℕ
@@ -31,9 +31,9 @@ isMapped (Id x) = true
 isMapped Unmapped = false
 
 -- the effective user and group ID of process p have a translation into its own namespace
-unfoldable pub knowsItself : State → Process → Bool
-knowsItself s p =
-    isMapped (fromKernel s User (p .namespace) (p .users .effective)) && isMapped (fromKernel s Group (p .namespace) (p .groups .effective))
+unfoldable pub knowsItself : Translation → Process → Bool
+knowsItself by p =
+    isMapped (by .back User (p .namespace) (p .users .effective)) && isMapped (by .back Group (p .namespace) (p .groups .effective))
 
 -- the namespace that process p makes, where own is the namespace that p is in: the setgroups setting is copied, both maps are unwritten
 unfoldable pub below : Process → Namespace → Namespace
@@ -60,11 +60,11 @@ entered p n = record {
 }
 
 -- clone and unshare alike, up to the free namespace n of caller p: 87, 1 and 28 in that order
-abbrev pub makesNamespace : State → ℕ → (ℕ → ℕ → Outcome) → Outcome
-makesNamespace s c next =
+abbrev pub makesNamespace : Translation → State → ℕ → (ℕ → ℕ → Outcome) → Outcome
+makesNamespace by s c next =
     onFound (processNamed s c) (refuse s 3) (λ p.
     when (leb 32 (namespaceAt s (processAt s p .namespace) .level)) (refuse s 87)
-    (unless (knowsItself s (processAt s p)) (refuse s 1)
+    (unless (knowsItself by (processAt s p)) (refuse s 1)
     (onFound (freeNamespacePlace s) (refuse s 28) (λ n. next p n))))
 
 -- the tables with namespace n made by process p
@@ -72,16 +72,16 @@ abbrev pub withChild : State → ℕ → ℕ → State
 withChild s p n = putNamespace s n (below (processAt s p) (namespaceAt s (processAt s p .namespace)))
 
 -- the child becomes a member
-unfoldable pub cloneOf : State → ℕ → Outcome
-cloneOf s c =
-    makesNamespace s c (λ p n.
+unfoldable pub cloneOf : Translation → State → ℕ → Outcome
+cloneOf by s c =
+    makesNamespace by s c (λ p n.
     onFound (freeProcessPlace s) (refuse s 11) (λ q.
     record { reply = childIn (q + 1) n; tables = putProcess (withChild s p n) q (entered (processAt s p) n) }))
 
 -- the caller becomes a member
-unfoldable pub unshareOf : State → ℕ → Outcome
-unshareOf s c =
-    makesNamespace s c (λ p n.
+unfoldable pub unshareOf : Translation → State → ℕ → Outcome
+unshareOf by s c =
+    makesNamespace by s c (λ p n.
     record { reply = newNamespace n; tables = putProcess (withChild s p n) p (entered (processAt s p) n) })
 
 -- ---- setns

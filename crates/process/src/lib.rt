@@ -3,6 +3,7 @@ ghost use mathlib.Core.Path.{_≡_};
 ghost use Prim.Native.Nat.{_<_};
 ghost use Rattle.tables.specs.Tables.{tablesOf};
 ghost use Rattle.tables.specs.Reply.{Promise};
+ghost use Rattle.hierarchy.specs.Lifted.{byLiftedMaps, quick};
 ghost use Rattle.process.specs.Calls.{forkOf, isMapped, knowsItself, below, entered, cloneOf, unshareOf, setnsOf};
 use capability::CapabilitySet;
 use hierarchy::capable::capable;
@@ -52,7 +53,7 @@ fn mapped(r: Translated) -> bool
 
 // Whether the process's effective user and group ID have a translation into its own namespace.
 fn knows_itself(t: &Tables, p: Process) -> bool
-    ensures { λ r. ⌜ r ≡ knowsItself (tablesOf (now (t .entry))) p ⌝ }
+    ensures { λ r. ⌜ r ≡ knowsItself (byLiftedMaps (tablesOf (now (t .entry)))) p ⌝ }
 {
     let users = p.users;
     let groups = p.groups;
@@ -103,7 +104,7 @@ fn member(p: Process, namespace: u64) -> Process
 // effective IDs are not mapped in its own namespace, 28 no namespace is free, 11 no process is free.
 // Ruled out, for instance: the two numbers in the other order; a new namespace on the caller's own level.
 pub fn clone(t: &mut Tables, caller: u64) -> Answer
-    ensures { λ r. ⌜ Promise r (now (t .entry)) (now (t .exit)) (cloneOf (tablesOf (now (t .entry))) caller) ⌝ }
+    ensures { λ r. ⌜ Promise r (now (t .entry)) (now (t .exit)) (quick cloneOf (tablesOf (now (t .entry))) caller) ⌝ }
 {
     let Found::At(place) = find_process(t, caller) else {
         return Answer::Refused(Errno::ESRCH);
@@ -130,7 +131,7 @@ pub fn clone(t: &mut Tables, caller: u64) -> Answer
 // The caller in a new namespace. Answers the namespace's number. Refuses as clone does, but for 11.
 // Ruled out, for instance: the parent's number as the answer; a new namespace on the caller's own level.
 pub fn unshare(t: &mut Tables, caller: u64) -> Answer
-    ensures { λ r. ⌜ Promise r (now (t .entry)) (now (t .exit)) (unshareOf (tablesOf (now (t .entry))) caller) ⌝ }
+    ensures { λ r. ⌜ Promise r (now (t .entry)) (now (t .exit)) (quick unshareOf (tablesOf (now (t .entry))) caller) ⌝ }
 {
     let Found::At(place) = find_process(t, caller) else {
         return Answer::Refused(Errno::ESRCH);

@@ -14,7 +14,7 @@ returns-6 c =
     let at-process = at-capable .before .before .before in
     let at-place = at-process .before .before .before in
     let list = at-place .before .before .before .before .before .args .list .now in
-    groups-done _ _ list _ (at-place .before .before .find-process .ensures) _ (at-place .place .given .1) _ (at-process .process-at .ensures)
+    groups-done _ _ _ list _ (at-place .before .before .find-process .ensures) _ (at-place .place .given .1) _ (at-process .process-at .ensures)
     _ (at-capable .before .capable .ensures) (at-capable .if1 .taken) _ (at-written .before .before .before .namespace-at .ensures)
     _ (at-written .before .is-written .ensures) (at-written .if2 .taken) (at-length .before .if3 .left) (at-length .if4 .left)
     _ (at-listed .before .kernel-groups .ensures) _ _ (at-listed .if5 .taken) (at-made .with-list .ensures) (c .process-put .ensures)
@@ -27,7 +27,7 @@ returns-7 c =
     let at-process = at-capable .before .before .before in
     let at-place = at-process .before .before .before in
     let list = at-place .before .before .before .before .before .args .list .now in
-    groups-unmapped _ _ list _ (at-place .before .before .find-process .ensures) _ (at-place .place .given .1) _ (at-process .process-at .ensures)
+    groups-unmapped _ _ _ list _ (at-place .before .before .find-process .ensures) _ (at-place .place .given .1) _ (at-process .process-at .ensures)
     _ (at-capable .before .capable .ensures) (at-capable .if1 .taken) _ (at-written .before .before .before .namespace-at .ensures)
     _ (at-written .before .is-written .ensures) (at-written .if2 .taken) (at-length .before .if3 .left) (at-length .if4 .left)
     _ (c .before .kernel-groups .ensures) (c .if5 .left)

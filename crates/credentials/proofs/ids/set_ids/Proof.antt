@@ -14,7 +14,7 @@ returns-5 c =
     let at-ids = at-real .before .before .before .before in
     let at-process = at-ids .before in
     let at-place = at-process .before .before .before in
-    set-ids-done _ _ _ _ _ _ _ (at-place .before .before .find-process .ensures) _ (at-place .place .given .1)
+    set-ids-done _ _ _ _ _ _ _ _ (at-place .before .before .find-process .ensures) _ (at-place .place .given .1)
     _ (at-process .process-at .ensures) _ (at-ids .ids-in .ensures)
     _ (at-real .before .before .choose .ensures) _ (at-real .a .given .1)
     _ (at-effective .before .before .choose2 .ensures) _ (at-effective .b .given .1)
@@ -29,7 +29,7 @@ returns-6 c =
     let at-ids = at-real .before .before .before .before in
     let at-process = at-ids .before in
     let at-place = at-process .before .before .before in
-    set-ids-denied _ _ _ _ _ _ _ (at-place .before .before .find-process .ensures) _ (at-place .place .given .1)
+    set-ids-denied _ _ _ _ _ _ _ _ (at-place .before .before .find-process .ensures) _ (at-place .place .given .1)
     _ (at-process .process-at .ensures) _ (at-ids .ids-in .ensures)
     _ (at-real .before .before .choose .ensures) _ (at-real .a .given .1)
     _ (at-effective .before .before .choose2 .ensures) _ (at-effective .b .given .1)

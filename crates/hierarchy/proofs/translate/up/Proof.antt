@@ -1,7 +1,7 @@
 -- `hierarchy::translate::up` meets its contract. A turn keeps what the rest of the way out makes of the ID. Assumes nothing.
 use mathlib.Core.Path.{_≡_}
 use Rattle.tables.specs.Tables.{tablesOf}
-use Rattle.hierarchy.specs.Walks.{outIn}
+use Rattle.hierarchy.specs.Lifted.{outIn}
 use Rattle.hierarchy.proofs.Translations.{translations}
 use Rattle.hierarchy.proofs.translate.up.Statement.{statement}
 use Rattle.hierarchy.proofs.translate.up.Tie as tie

@@ -34,7 +34,7 @@ read-map-spec =
     let m = c .before .before .before in
     let p = m .before .before .before .before .before in
     let r = p .before .before .before .before in
-    map-short _ _ _ _ _ _ (r .before .before .find-process .ensures) _ (r .reader .given .1)
+    map-short _ _ _ _ _ _ _ (r .before .before .find-process .ensures) _ (r .reader .given .1)
     _ (p .before .before .find-process2 .ensures) _ (p .place .given .1) _ (m .before .before .process-at2 .ensures)
     _ (m .before .namespace-at .ensures) _ (m .map-in .ensures) (long m) _ (c .before .before .line-count .ensures)
     (omega (arith, c .if1 .taken)))
@@ -47,7 +47,7 @@ read-map-spec =
     let m = c .before .before .before .before .before .before .before .before in
     let p = m .before .before .before .before .before in
     let r = p .before .before .before .before in
-    map-read _ _ _ _ _ _ (r .before .before .find-process .ensures) _ (r .reader .given .1)
+    map-read _ _ _ _ _ _ _ (r .before .before .find-process .ensures) _ (r .reader .given .1)
     _ (p .before .before .find-process2 .ensures) _ (p .place .given .1) _ (m .before .before .process-at2 .ensures)
     _ (m .before .namespace-at .ensures) _ (m .map-in .ensures) (long m)
     _ (c .before .before .before .before .before .before .before .line-count .ensures) _ _ _ (m .before .before .before .process-at .ensures)

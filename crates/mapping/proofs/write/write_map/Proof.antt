@@ -5,7 +5,7 @@ use Rattle.mapping.proofs.write.write_map.Tie as tie
 
 returns-3 : tie.Need-returns-3
 returns-3 c =
-    write-found _ _ _ _ _ _ (c .before .before .before .before .before .before .before .before .before .before .before .before .before .before .find-process .ensures) _ (c .before .before .before .before .before .before .before .before .before .before .before .before .writer .given .1) _ (c .before .before .before .before .before .before .before .before .before .find-process2 .ensures) _ _ _ _ _
+    write-found _ _ _ _ _ _ _ (c .before .before .before .before .before .before .before .before .before .before .before .before .before .before .find-process .ensures) _ (c .before .before .before .before .before .before .before .before .before .before .before .before .writer .given .1) _ (c .before .before .before .before .before .before .before .before .before .find-process2 .ensures) _ _ _ _ _
     (c .before .before .before .before .before .before .before .place .given .1) (c .before .before .before .before .process-at .ensures) (c .before .before .process-at2 .ensures) (c .write-to .ensures)
 
 pub write-map-spec : {M : Type 1} → statement M

@@ -5,7 +5,7 @@ use Rattle.mapping.proofs.write.write_to.Tie as tie
 
 returns-6 : tie.Need-returns-6
 returns-6 c =
-    to-lines _ _ _ _ _ (c .before .before .before .before .before .before .before .before .before .before .before .before .before .before .before .before .if1 .left) _ (c .before .before .before .before .before .before .before .before .before .before .before .before .before .before .near .ensures) (c .before .before .before .before .before .before .before .before .before .before .before .before .before .if2 .taken) (c .before .before .before .before .before .before .before .before .before .before .before .before .if3 .left) (c .before .before .before .before .before .before .before .before .before .before .before .if4 .left) _
+    to-lines _ _ _ _ _ _ (c .before .before .before .before .before .before .before .before .before .before .before .before .before .before .before .before .if1 .left) _ (c .before .before .before .before .before .before .before .before .before .before .before .before .before .before .near .ensures) (c .before .before .before .before .before .before .before .before .before .before .before .before .before .if2 .taken) (c .before .before .before .before .before .before .before .before .before .before .before .before .if3 .left) (c .before .before .before .before .before .before .before .before .before .before .before .if4 .left) _
     (c .before .before .before .before .before .before .before .before .before .namespace-at .ensures) _ (c .before .before .before .before .before .before .before .before .map-in .ensures) _ (c .before .before .before .before .before .before .before .is-written .ensures) (c .before .before .before .before .before .before .if5 .left) _ (c .before .before .before .before .set-id .ensures) _
     (c .before .before .before .capable .ensures) _ _ (c .before .before .if6 .taken) (c .write-lines .ensures)
 
