@@ -19,13 +19,13 @@ use Rattle.tables.specs.declared.answer.Errno.the-variants.{EPERM, ESRCH, EAGAI
 use Rattle.tables.specs.declared.answer.Answer.the-variants.{Refused, Done, Child, ChildIn, NewNamespace}
 use Rattle.tables.specs.declared.find.Found.{Found}
 use Rattle.tables.specs.declared.find.Found.the-variants.{At, Nothing}
-use Rattle.tables.specs.Tables.{State, tablesOf, processAt, namespaceAt, putProcess, putNamespace}
+use Rattle.tables.specs.Tables.{State, tablesOf, processAt, namespaceAt, putProcess, putNamespace, clearLiftedMaps}
 use Rattle.tables.specs.Find.{processNamed, namespaceNamed, freeProcessPlace, freeNamespacePlace}
 use Rattle.tables.specs.Reply.{Promise}
 use Rattle.tables.proofs.Promises.{refuses, answers, free-process-below}
 use Rattle.hierarchy.specs.Walks.{Translation, capableIn}
 use Rattle.hierarchy.specs.Lifted.{fromKernel, byLiftedMaps}
-use Rattle.process.specs.Calls.{sysAdmin, forkOf, isMapped, knowsItself, below, entered, cloneOf, unshareOf, setnsOf}
+use Rattle.process.specs.Calls.{sysAdmin, forkOf, isMapped, knowsItself, below, withNamespace, entered, cloneOf, unshareOf, setnsOf}
 
 -- ---- knows_itself
 module _ (s : State) (p : Process) (u : Translated) (m : Bool) (f : u ≡ fromKernel s User (p .namespace) (p .users .effective)) (e : m ≡ isMapped u) where
@@ -45,6 +45,9 @@ member-is p n = refl
 pub child-is : (p : Process) (own : Namespace) (m : IdMap) → m ≡ freeMap → _≡_ {A = Namespace} (record { live = true; parent = p .namespace; level = own .level + 1; owner = p .users .effective; users = m; groups = m; deny = own .deny }) (below p own)
 unfolding below
 child-is p own m e = λ i. record { live = true; parent = p .namespace; level = own .level + 1; owner = p .users .effective; users = e i; groups = e i; deny = own .deny }
+
+pub made-is : (s₀ s₁ s₂ : State) (n : ℕ) (p : Process) (own new : Namespace) → new ≡ below p own → s₁ ≡ putNamespace s₀ n new → s₂ ≡ clearLiftedMaps s₁ n → s₂ ≡ withNamespace s₀ n p own
+made-is s₀ s₁ s₂ n p own new e f g = g ∙ rw (f, e)
 
 -- ---- a number that is answered fits
 pub number-fits : (l : List ℕ) (r : Found) (i : ℕ) → r ≡ freeProcessPlace (tablesOf l) → r ≡ At i → Fits w64 (i + 1)
@@ -107,18 +110,18 @@ module _ (by : Translation) (l : List ℕ) (c : ℕ) (r : Found) (f : r ≡ proc
           unfolding cloneOf
           clone-no-place q g z = refuses EAGAIN l (cloneOf by (tablesOf l) c) (sym (rw (sym f ∙ v, ← e, ← o, lt-leb 32 (own .level) h, ← m, t, sym b ∙ w, sym g ∙ z)))
 
-          module _ (new : Namespace) (x : new ≡ below p own) (l₁ : List ℕ) (y : tablesOf l₁ ≡ putNamespace (tablesOf l) n new) (in′ : Process) (z : in′ ≡ entered p n) (l₂ : List ℕ) where
+          module _ (l₁ : List ℕ) (y : tablesOf l₁ ≡ withNamespace (tablesOf l) n p own) (in′ : Process) (z : in′ ≡ entered p n) (l₂ : List ℕ) where
             pub clone-done : (q : Found) (j : ℕ) → q ≡ freeProcessPlace (tablesOf l) → q ≡ At j → tablesOf l₂ ≡ putProcess (tablesOf l₁) j in′ → Promise (ChildIn (j + 1) n) l l₂ (cloneOf by (tablesOf l) c)
             unfolding cloneOf
             clone-done q j g u k =
                 answers (ChildIn (j + 1) n) l l₂ (cloneOf by (tablesOf l) c) refl
-                (rw (sym f ∙ v, ← e, ← o, lt-leb 32 (own .level) h, ← m, t, sym b ∙ w, sym g ∙ u, k, y, x, z))
+                (rw (sym f ∙ v, ← e, ← o, lt-leb 32 (own .level) h, ← m, t, sym b ∙ w, sym g ∙ u, k, y, z))
 
             pub unshare-done : tablesOf l₂ ≡ putProcess (tablesOf l₁) i in′ → Promise (NewNamespace n) l l₂ (unshareOf by (tablesOf l) c)
             unfolding unshareOf
             unshare-done k =
                 answers (NewNamespace n) l l₂ (unshareOf by (tablesOf l) c) refl
-                (rw (sym f ∙ v, ← e, ← o, lt-leb 32 (own .level) h, ← m, t, sym b ∙ w, k, y, x, z))
+                (rw (sym f ∙ v, ← e, ← o, lt-leb 32 (own .level) h, ← m, t, sym b ∙ w, k, y, z))
 
 -- ---- setns
 module _ (l : List ℕ) (c name : ℕ) (r : Found) (f : r ≡ processNamed (tablesOf l) c) where
@@ -145,7 +148,7 @@ module _ (l : List ℕ) (c name : ℕ) (r : Found) (f : r ≡ processNamed (tabl
         unfolding setnsOf
         setns-done in′ l′ t z y = answers Done l l′ (setnsOf (tablesOf l) c name) refl (rw (sym f ∙ v, sym g ∙ w, ← e, ne-eqb (p .namespace) n h, ← m, t, y, z))
 
-pub ruleset helpers = (knows-user, knows-no-user, member-is, child-is, needs)
+pub ruleset helpers = (knows-user, knows-no-user, member-is, child-is, made-is, needs)
 
 pub ruleset forks = (number-fits, fork-no-caller, fork-full, fork-done, needs)
 

@@ -9,7 +9,7 @@ use Rattle.records.specs.declared.Kind.the-variants.{User, Group}
 use Rattle.records.specs.declared.Process.{Process}
 use Rattle.records.specs.declared.Namespace.{Namespace}
 use Rattle.records.specs.Records.{freeMap}
-use Rattle.tables.specs.Tables.{State, processAt, namespaceAt, putProcess, putNamespace}
+use Rattle.tables.specs.Tables.{State, processAt, namespaceAt, putProcess, putNamespace, clearLiftedMaps}
 use Rattle.tables.specs.Find.{processNamed, namespaceNamed, freeProcessPlace, freeNamespacePlace}
 use Rattle.tables.specs.Reply.{done, child, childIn, newNamespace, Outcome, refuse, onFound, when, unless}
 use Rattle.hierarchy.specs.Walks.{Translation, capableIn}
@@ -47,6 +47,10 @@ below p own = record {
   deny = own .deny;
 }
 
+-- the tables with that namespace in place n. Nothing that the code kept beside maps there is left
+abbrev pub withNamespace : State → ℕ → Process → Namespace → State
+withNamespace s n p own = clearLiftedMaps (putNamespace s n (below p own)) n
+
 -- process p as a member of namespace n: both sets full, its IDs unchanged
 unfoldable pub entered : Process → ℕ → Process
 entered p n = record {
@@ -69,7 +73,7 @@ makesNamespace by s c next =
 
 -- the tables with namespace n made by process p
 abbrev pub withChild : State → ℕ → ℕ → State
-withChild s p n = putNamespace s n (below (processAt s p) (namespaceAt s (processAt s p .namespace)))
+withChild s p n = withNamespace s n (processAt s p) (namespaceAt s (processAt s p .namespace))
 
 -- the child becomes a member
 unfoldable pub cloneOf : Translation → State → ℕ → Outcome

@@ -4,7 +4,7 @@ ghost use Prim.Native.Nat.{_<_};
 ghost use Rattle.tables.specs.Tables.{tablesOf};
 ghost use Rattle.tables.specs.Reply.{Promise};
 ghost use Rattle.hierarchy.specs.Lifted.{byLiftedMaps, quick};
-ghost use Rattle.process.specs.Calls.{forkOf, isMapped, knowsItself, below, entered, cloneOf, unshareOf, setnsOf};
+ghost use Rattle.process.specs.Calls.{forkOf, isMapped, knowsItself, below, withNamespace, entered, cloneOf, unshareOf, setnsOf};
 use capability::CapabilitySet;
 use hierarchy::capable::capable;
 use hierarchy::translate::from_kernel;
@@ -21,6 +21,7 @@ use tables::find::find_namespace;
 use tables::find::find_process;
 use tables::find::free_namespace_place;
 use tables::find::free_process_place;
+use tables::lifted_maps::lifted_maps_clear;
 use tables::namespaces::namespace_at;
 use tables::namespaces::namespace_put;
 use tables::processes::process_at;
@@ -82,6 +83,15 @@ fn child_namespace(p: Process, own: Namespace) -> Namespace
     }
 }
 
+// Puts that namespace into place `n`, with nothing left of maps that stood there before.
+fn make_namespace(t: &mut Tables, n: usize, p: Process, own: Namespace)
+    requires { ⌜ own .level < 32 ⌝ }
+    ensures { λ r. ⌜ tablesOf (now (t .exit)) ≡ withNamespace (tablesOf (now (t .entry))) n p own ⌝ }
+{
+    namespace_put(t, n, child_namespace(p, own));
+    lifted_maps_clear(t, n);
+}
+
 // A process as a member of a namespace, with both sets full.
 fn member(p: Process, namespace: u64) -> Process
     ensures { λ r. ⌜ r ≡ entered p «namespace» ⌝ }
@@ -123,7 +133,7 @@ pub fn clone(t: &mut Tables, caller: u64) -> Answer
     let Found::At(free) = free_process_place(t) else {
         return Answer::Refused(Errno::EAGAIN);
     };
-    namespace_put(t, n, child_namespace(p, own));
+    make_namespace(t, n, p, own);
     process_put(t, free, member(p, n as u64));
     Answer::ChildIn(free as u64 + 1, n as u64)
 }
@@ -147,7 +157,7 @@ pub fn unshare(t: &mut Tables, caller: u64) -> Answer
     let Found::At(n) = free_namespace_place(t) else {
         return Answer::Refused(Errno::ENOSPC);
     };
-    namespace_put(t, n, child_namespace(p, own));
+    make_namespace(t, n, p, own);
     process_put(t, place, member(p, n as u64));
     Answer::NewNamespace(n as u64)
 }

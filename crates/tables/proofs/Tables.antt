@@ -4,20 +4,21 @@ use mathlib.Core.Path.{_≡_, refl, sym, ap, _∙_}
 use mathlib.Core.List.{List}
 use mathlib.Core.Logic.{inl, inr}
 use native.Mathlib.Omega.{arith}
-use lib.ListN.{length, set}
+use lib.ListN.{length, set, replicate}
 use borrow.Author.Needs.{needs}
 use Rattle.prelude.specs.Parts.{part, putAt}
 use Rattle.prelude.proofs.Parts.{length-part}
 use Rattle.rows.specs.Rows.{rows}
 use Rattle.rows.proofs.Rows.{row-put, row-get, row-none, row-out, rows-apart, length-rows}
-use Rattle.lifted_map.specs.Lift.{Lifted, liftedIn}
+use Rattle.idmap.specs.Line.{linesIn}
+use Rattle.lifted_map.specs.Lift.{Lifted, countedLines, liftedIn}
 use Rattle.records.specs.declared.Process.{Process}
 use Rattle.records.specs.declared.Namespace.{Namespace}
 use Rattle.records.specs.declared.Kind.{Kind}
 use Rattle.records.specs.declared.Kind.the-variants.{User, Group}
 use Rattle.records.specs.Records.{processOf, processFrom, freeProcess, namespaceOf, namespaceFrom, freeNamespace}
 use Rattle.records.proofs.Records.{process-whole, namespace-whole}
-use Rattle.tables.specs.Tables.{State, tablesOf, processAt, namespaceAt, liftedMaps, putProcess, putNamespace, putLiftedMap}
+use Rattle.tables.specs.Tables.{State, tablesOf, processAt, namespaceAt, liftedMaps, noLift, putProcess, putNamespace, putLiftedMap, clearLiftedMaps}
 
 pub length-processes : (l : List ℕ) → length (tablesOf l .processes) ≡ 128
 unfolding tablesOf
@@ -114,6 +115,14 @@ module _ (l : List ℕ) (i : ℕ) where
         (rows-apart liftedIn 101 64 5952 l (12416 + i * 101) ws (inr (omega arith)))
         (row-put liftedIn 101 64 12416 l i ws (12416 + i * 101) refl h w (omega arith)))
 
+-- a lifted map of either kind, cleared
+pub lifted-maps-cleared : (s₀ s₁ s₂ : State) (i : ℕ) (u g : Lifted) → s₁ ≡ putLiftedMap s₀ User i u → s₂ ≡ putLiftedMap s₁ Group i g → u ≡ noLift → g ≡ noLift → s₂ ≡ clearLiftedMaps s₀ i
+lifted-maps-cleared s₀ s₁ s₂ i u g e f p q = f ∙ rw (e, p, q)
+
+pub row-empty : liftedIn (replicate 101 0) ≡ noLift
+unfolding liftedIn countedLines part linesIn
+row-empty = refl
+
 pub ruleset loads = (process-get, namespace-get, process-none, namespace-none, needs)
 
-pub ruleset stores = (process-out, namespace-out, process-put, namespace-put, lifted-map-out, lifted-users-put, lifted-groups-put, needs)
+pub ruleset stores = (process-out, namespace-out, process-put, namespace-put, lifted-map-out, lifted-users-put, lifted-groups-put, lifted-maps-cleared, row-empty, needs)

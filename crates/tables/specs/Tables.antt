@@ -80,6 +80,10 @@ putNamespace s i n = withNamespaces s (set (s .namespaces) i n)
 abbrev pub putLiftedMap : State → Kind → ℕ → Lifted → State
 putLiftedMap s k i m = withLiftedMaps s k (set (liftedMaps k s) i m)
 
+-- the same tables with no lifted map of either kind in place i
+abbrev pub clearLiftedMaps : State → ℕ → State
+clearLiftedMaps s i = putLiftedMap (putLiftedMap s User i noLift) Group i noLift
+
 -- ---- document 01: the fresh start
 abbrev pub allZero : Ids
 allZero = record { real = 0; effective = 0; saved = 0 }

@@ -2,7 +2,7 @@
 ghost use mathlib.Core.Path.{_≡_};
 ghost use Rattle.idmap.specs.Line.{linesIn};
 ghost use Rattle.lifted_map.specs.Lift.{liftedIn};
-ghost use Rattle.tables.specs.Tables.{tablesOf, liftedAt, putLiftedMap};
+ghost use Rattle.tables.specs.Tables.{tablesOf, liftedAt, putLiftedMap, clearLiftedMaps};
 use crate::Tables;
 use lifted_map::LiftedMap;
 use lifted_map::read::base_in;
@@ -46,4 +46,13 @@ pub fn lifted_map_put(t: &mut Tables, kind: Kind, place: usize, map: &LiftedMap)
         Kind::User => rows::put(t, 5952 + place * 101, map),
         Kind::Group => rows::put(t, 12416 + place * 101, map),
     }
+}
+
+// Leaves a namespace without a lifted map of either kind. A place past the end has none.
+pub fn lifted_maps_clear(t: &mut Tables, place: usize)
+    ensures { λ r. ⌜ tablesOf (now (t .exit)) ≡ clearLiftedMaps (tablesOf (now (t .entry))) place ⌝ }
+{
+    let none: LiftedMap = [0; 101];
+    lifted_map_put(t, Kind::User, place, &none);
+    lifted_map_put(t, Kind::Group, place, &none);
 }

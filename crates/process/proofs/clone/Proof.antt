@@ -5,10 +5,20 @@ use Rattle.process.proofs.clone.Tie as tie
 
 returns-6 : tie.Need-returns-6
 returns-6 c =
-    clone-done _ _ _ _ (c .before .before .before .before .before .before .before .before .before .before .before .before .before .before .before .before .before .before .before .before .before .before .before .before .before .before .before .before .find-process .ensures) _ (c .before .before .before .before .before .before .before .before .before .before .before .before .before .before .before .before .before .before .before .before .before .before .before .before .before .before .place .given .1) _ (c .before .before .before .before .before .before .before .before .before .before .before .before .before .before .before .before .before .before .before .before .before .before .before .process-at .ensures) _
-    (c .before .before .before .before .before .before .before .before .before .before .before .before .before .before .before .before .before .before .before .before .before .namespace-at .ensures) (c .before .before .before .before .before .before .before .before .before .before .before .before .before .before .before .before .before .before .before .if1 .left) _ (c .before .before .before .before .before .before .before .before .before .before .before .before .before .before .before .before .before .knows-itself .ensures) (c .before .before .before .before .before .before .before .before .before .before .before .before .before .before .before .before .if2 .taken) _
-    (c .before .before .before .before .before .before .before .before .before .before .before .before .before .before .free-namespace-place .ensures) _ (c .before .before .before .before .before .before .before .before .before .before .before .before .n .given .1) _ (c .before .before .before .before .child-namespace .ensures) _ (c .before .before .before .namespace-put .ensures) _
-    (c .before .member .ensures) _ _ _ (c .before .before .before .before .before .before .before .before .before .free-process-place .ensures) (c .before .before .before .before .before .before .before .free .given .1) (c .process-put .ensures)
+    let at-made = c .before .before .before in
+    let at-free = at-made .before .before .before in
+    let at-room = at-free .before .before in
+    let at-number = at-room .before .before .before in
+    let at-space = at-number .before .before in
+    let at-known = at-space .before .before in
+    let at-level = at-known .before .before .before in
+    let at-own = at-level .before .before in
+    let at-process = at-own .before .before in
+    let at-place = at-process .before .before .before in
+    let at-caller = at-place .before .before in
+    clone-done _ _ _ _ (at-caller .find-process .ensures) _ (at-place .place .given .1) _ (at-process .process-at .ensures) _ (at-own .namespace-at .ensures)
+    (at-level .if1 .left) _ (at-known .before .knows-itself .ensures) (at-known .if2 .taken) _ (at-space .free-namespace-place .ensures) _ (at-number .n .given .1)
+    _ (at-made .make-namespace .ensures) _ (c .before .member .ensures) _ _ _ (at-room .free-process-place .ensures) (at-free .free .given .1) (c .process-put .ensures)
 
 pub clone-spec : {M : Type 1} → statement M
 clone-spec =
@@ -30,9 +40,8 @@ clone-spec =
     (λ c. search clones)  -- enum-known-free
     (λ c. search clones)  -- enum-told-3
     (λ c. search clones)  -- returns-5
-    (λ c κs. search clones)  -- child-namespace-requires
-    (λ c κs. search clones)  -- namespace-put-requires
+    (λ c κs. search clones)  -- make-namespace-requires
     (λ c κs. search clones)  -- member-requires
     (λ c κs. search clones)  -- process-put-requires
-    (λ c. search clones)  -- add-t31
+    (λ c. search clones)  -- add-t30
     returns-6)

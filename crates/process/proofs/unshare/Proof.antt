@@ -5,10 +5,18 @@ use Rattle.process.proofs.unshare.Tie as tie
 
 returns-5 : tie.Need-returns-5
 returns-5 c =
-    unshare-done _ _ _ _ (c .before .before .before .before .before .before .before .before .before .before .before .before .before .before .before .before .before .before .before .before .before .before .before .find-process .ensures) _ (c .before .before .before .before .before .before .before .before .before .before .before .before .before .before .before .before .before .before .before .before .before .place .given .1) _ (c .before .before .before .before .before .before .before .before .before .before .before .before .before .before .before .before .before .before .process-at .ensures) _
-    (c .before .before .before .before .before .before .before .before .before .before .before .before .before .before .before .before .namespace-at .ensures) (c .before .before .before .before .before .before .before .before .before .before .before .before .before .before .if1 .left) _ (c .before .before .before .before .before .before .before .before .before .before .before .before .knows-itself .ensures) (c .before .before .before .before .before .before .before .before .before .before .before .if2 .taken) _
-    (c .before .before .before .before .before .before .before .before .before .free-namespace-place .ensures) _ (c .before .before .before .before .before .before .before .n .given .1) _ (c .before .before .before .before .child-namespace .ensures) _ (c .before .before .before .namespace-put .ensures) _
-    (c .before .member .ensures) _ (c .process-put .ensures)
+    let at-made = c .before .before .before in
+    let at-number = at-made .before .before .before in
+    let at-space = at-number .before .before in
+    let at-known = at-space .before .before in
+    let at-level = at-known .before .before .before in
+    let at-own = at-level .before .before in
+    let at-process = at-own .before .before in
+    let at-place = at-process .before .before .before in
+    let at-caller = at-place .before .before in
+    unshare-done _ _ _ _ (at-caller .find-process .ensures) _ (at-place .place .given .1) _ (at-process .process-at .ensures) _ (at-own .namespace-at .ensures)
+    (at-level .if1 .left) _ (at-known .before .knows-itself .ensures) (at-known .if2 .taken) _ (at-space .free-namespace-place .ensures) _ (at-number .n .given .1)
+    _ (at-made .make-namespace .ensures) _ (c .before .member .ensures) _ (c .process-put .ensures)
 
 pub unshare-spec : {M : Type 1} → statement M
 unshare-spec =
@@ -26,8 +34,7 @@ unshare-spec =
     (λ c. search unshares)  -- enum-known-n
     (λ c. search unshares)  -- enum-told-2
     (λ c. search unshares)  -- returns-4
-    (λ c κs. search unshares)  -- child-namespace-requires
-    (λ c κs. search unshares)  -- namespace-put-requires
+    (λ c κs. search unshares)  -- make-namespace-requires
     (λ c κs. search unshares)  -- member-requires
     (λ c κs. search unshares)  -- process-put-requires
     returns-5)

@@ -1,0 +1,12 @@
+-- `process::make_namespace` meets its contract. Assumes nothing.
+use Rattle.process.proofs.Outcomes.{helpers}
+use Rattle.process.proofs.make_namespace.Statement.{statement}
+use Rattle.process.proofs.make_namespace.Tie as tie
+
+pub make-namespace-spec : {M : Type 1} → statement M
+make-namespace-spec =
+    tie.close (tie.spec
+    (λ c κs. search helpers)  -- child-namespace-requires
+    (λ c κs. search helpers)  -- namespace-put-requires
+    (λ c κs. search helpers)  -- lifted-maps-clear-requires
+    (λ c. search helpers))  -- returns
