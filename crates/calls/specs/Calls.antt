@@ -3,18 +3,18 @@ use Prim.Native.Nat.{ℕ}
 use mathlib.Core.Path.{_≡_}
 use mathlib.Core.Bool.{true}
 use mathlib.Core.List.{List, _∷_}
-use lib.ListN.{take, replicate}
+use lib.ListN.{getD, take, drop, replicate}
 use Rattle.records.specs.declared.Ids.{Ids}
 use Rattle.records.specs.declared.GroupList.{GroupList}
 use Rattle.tables.specs.declared.answer.Answer.{Answer}
 use Rattle.tables.specs.declared.answer.Answer.the-variants.{Refused, Done, Child, ChildIn, NewNamespace, Yes, No, Length, Id, Unmapped, Own}
 use Rattle.tables.specs.Tables.{State, tablesOf}
-use Rattle.tables.specs.Reply.{Reply, ids, replyOf, Outcome, isRefused}
+use Rattle.tables.specs.Reply.{Reply, refused, done, child, childIn, newNamespace, yes′, no′, bytes, ids, id, unmapped, replyOf, Outcome, isRefused}
 use Rattle.hierarchy.specs.Walks.{Translation}
 use Rattle.process.specs.Calls.{forkOf, cloneOf, unshareOf, setnsOf}
 use Rattle.mapping.specs.Calls.{ReadOutcome, writeMapOf, writeSetgroupsOf, readMapOf, readSetgroupsOf}
 use Rattle.credentials.specs.declared.own.OwnIds.{OwnIds}
-use Rattle.credentials.specs.Calls.{setIdsOf, setGroupsOf, capableReply, dropOf, noIds, ownIdsOf, translateReply}
+use Rattle.credentials.specs.Calls.{setIdsOf, groupList, setGroupsOf, capableReply, dropOf, noIds, ownIdsOf, translateReply}
 use Rattle.calls.specs.declared.Call.{Call}
 use Rattle.calls.specs.declared.Call.the-variants.{Fork, Clone, Unshare, Setns, WriteMap, WriteSetgroups, ReadMap, ReadSetgroups, SetIds, SetGroups, Capable, Drop, OwnIdsOf, Translate}
 
@@ -56,6 +56,26 @@ callReply r = replyBeside (r .answer) (r .users) (r .groups) (r .supplementary)
 abbrev pub plainOf : Answer → OwnIds
 plainOf a = record { answer = a; users = noIds; groups = noIds; supplementary = record { count = 0; ids = replicate 16 0 } }
 
+-- the whole result of an answer with its reply: own IDs stand beside it as the reply lists them, with zeros past the groups, and zeros beside every
+-- other answer
+abbrev pub resultOf : Answer → Reply → OwnIds
+resultOf a (ids l) = record {
+  answer = a;
+  users = record { real = getD l 0 0; effective = getD l 1 0; saved = getD l 2 0 };
+  groups = record { real = getD l 3 0; effective = getD l 4 0; saved = getD l 5 0 };
+  supplementary = groupList (drop 6 l);
+}
+resultOf a (refused e) = plainOf a
+resultOf a done = plainOf a
+resultOf a (child p) = plainOf a
+resultOf a (childIn p n) = plainOf a
+resultOf a (newNamespace n) = plainOf a
+resultOf a yes′ = plainOf a
+resultOf a no′ = plainOf a
+resultOf a (bytes n) = plainOf a
+resultOf a (id x) = plainOf a
+resultOf a unmapped = plainOf a
+
 -- ---- the one definition that a list of calls folds
 abbrev pub stored : Outcome → List ℕ → Step
 stored o buffer = record { reply = o .reply; tables = o .tables; buffer = buffer }
@@ -85,7 +105,9 @@ answerBy by s (Translate k w c n x) text list buffer = asked s (translateReply b
 abbrev pub answerOf : Translation → State → Request → Step
 answerOf by s r = answerBy by s (r .call) (r .text) (r .list) (r .buffer)
 
--- what the entry point promises: its answer, the tables and the buffer are the step's, and a refusal leaves every word of the lent array as it was
-pub record CallPromise (r : Reply) (entry exit after : List ℕ) (step : Step) : Type 0 where
-  pub outcome : _≡_ {A = Step} (record { reply = r; tables = tablesOf exit; buffer = after }) step
-  pub kept : isRefused r ≡ true → exit ≡ entry
+-- what the entry point promises of its result r: its answer, the tables and the buffer are the step's, the result holds nothing else than that answer's,
+-- and a refusal leaves every word of the lent array as it was. `one-result` of proofs/OneResult.antt: it is one value
+pub record CallPromise (r : OwnIds) (entry exit after : List ℕ) (step : Step) : Type 0 where
+  pub outcome : _≡_ {A = Step} (record { reply = callReply r; tables = tablesOf exit; buffer = after }) step
+  pub whole : r ≡ resultOf (r .answer) (step .reply)
+  pub kept : isRefused (callReply r) ≡ true → exit ≡ entry

@@ -2,7 +2,7 @@
 ghost use Rattle.tables.specs.Tables.{tablesOf};
 ghost use mathlib.Core.Path.{_≡_};
 ghost use Rattle.hierarchy.specs.Lifted.{quick};
-ghost use Rattle.calls.specs.Calls.{callReply, plainOf, answerBy, CallPromise};
+ghost use Rattle.calls.specs.Calls.{plainOf, answerBy, CallPromise};
 use credentials::own::OwnIds;
 use credentials::translate::Way;
 use records::GroupList;
@@ -50,8 +50,9 @@ fn plain(answer: Answer) -> OwnIds
 }
 
 // Answers a call: the promise is by cases the calls' own.
+// Ruled out, for instance: IDs beside an answer that has none; unshare's answer to a clone.
 pub fn answer(t: &mut Tables, c: Call, text: &[u8], list: &[u32], buffer: &mut [u8]) -> OwnIds
-    ensures { λ r. ⌜ CallPromise (callReply r) (now (t .entry)) (now (t .exit)) (now (buffer .exit)) (quick answerBy (tablesOf (now (t .entry))) c (now (text .entry)) (now (list .entry)) (now (buffer .entry))) ⌝ }
+    ensures { λ r. ⌜ CallPromise r (now (t .entry)) (now (t .exit)) (now (buffer .exit)) (quick answerBy (tablesOf (now (t .entry))) c (now (text .entry)) (now (list .entry)) (now (buffer .entry))) ⌝ }
 {
     match c {
         Call::Fork(caller) => plain(process::fork(t, caller)),
