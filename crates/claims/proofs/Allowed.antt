@@ -1,21 +1,27 @@
 -- What allowed an event: the facts that its call had tested. Every theorem over lists of calls goes by these and opens no call. Assumes nothing.
-use Prim.Native.Nat.{ℕ, _<_, _^_}
+use Prim.Native.Nat.{ℕ, zero, suc, _+_, _≤_, _<_, _^_}
 use mathlib.Core.Path.{_≡_, refl}
 use mathlib.Core.Bool.{true, false}
 use mathlib.Core.List.{List, [], _∷_}
-use mathlib.Core.Option.{none}
+use mathlib.Core.Option.{none, some}
+use native.Mathlib.Nat.{not-suc-le-zero}
 use native.Mathlib.Omega.{arith}
 use lib.Dec.{eqb}
+use lib.ListN.{length, getD}
 use borrow.Author.Tests.{eq-eqb, eqb-true}
 use Rattle.idmap.specs.declared.Translated.the-variants.{Id}
+use Rattle.idmap.specs.Line.{noLine}
+use Rattle.idmap.specs.Cover.{HasLine}
+use Rattle.idmap.specs.Text.{mapLines}
 use Rattle.idmap.specs.Good.{goodOf, boundedOf, fitsOf, allApart}
 use Rattle.records.specs.declared.Kind.{Kind}
 use Rattle.records.specs.declared.Kind.the-variants.{Group}
 use Rattle.records.specs.declared.Ids.{Ids}
+use Rattle.tables.specs.Tables.{fixedLine}
 use Rattle.prelude.proofs.Tests.{by-test}
 use Rattle.claims.specs.Events.{Event, other, forked, cloned, unshared, joined, mapped, changed, grouped}
-use Rattle.claims.specs.Words.{isProcess, isNamespace, placeOf, parentOf, levelOf, mapOf, standsFor, chosenOf, heldOf}
-use Rattle.claims.specs.TopLevel.{IsUnder}
+use Rattle.claims.specs.Words.{isProcess, isNamespace, placeOf, parentOf, levelOf, mapOf, orNone, linesOf, standsFor, chosenOf, heldOf}
+use Rattle.claims.specs.TopLevel.{IsUnder, OnParentSide}
 use Rattle.claims.proofs.Sound.{Sound, moves, begins, makes, writes}
 
 -- caller c got child q
@@ -36,11 +42,12 @@ pub record Joins (h : List Event) (c n : ℕ) : Type 0 where
   pub target : isNamespace h n ≡ true
   pub inward : IsUnder h (placeOf h c) n
 
--- a map that was not written is, below one that was
-pub record Maps (h : List Event) (k : Kind) (q : ℕ) : Type 0 where
+-- a map that was not written is, below one that was and that has a line for each ID of its parent side
+pub record Maps (h : List Event) (k : Kind) (q : ℕ) (text : List ℕ) : Type 0 where
   pub process : isProcess h q ≡ true
   pub unwritten : mapOf k h (placeOf h q) ≡ none
   pub parent-written : mapOf k h (parentOf h (placeOf h q)) ≡ none → ⊥
+  pub covered : (z : ℕ) → OnParentSide (orNone (mapLines text)) z → HasLine (linesOf k h (parentOf h (placeOf h q))) z
 
 -- an ID that was given is left as it is, or stands for one
 pub record Chosen (h : List Event) (k : Kind) (n x old : ℕ) : Type 0 where
@@ -61,6 +68,7 @@ AllStand h n (x ∷ l) = (x < 2 ^ 32) × ((y : ℕ) × (standsFor Group h n x �
 
 pub record Groups (h : List Event) (c : ℕ) (list : List ℕ) : Type 0 where
   pub caller : isProcess h c ≡ true
+  pub few : length list ≤ 16
   pub each : AllStand h (placeOf h c) list
 
 abbrev pub Allowed : List Event → Event → Type 0
@@ -69,7 +77,7 @@ Allowed h (forked c q) = NewProcess h c q
 Allowed h (cloned c q n) = NewProcess h c q × NewNamespace h c n
 Allowed h (unshared c n) = NewNamespace h c n
 Allowed h (joined c n) = Joins h c n
-Allowed h (mapped k q text) = Maps h k q
+Allowed h (mapped k q text) = Maps h k q text
 Allowed h (changed k c new) = Changes h k c new
 Allowed h (grouped c list) = Groups h c list
 
@@ -80,6 +88,17 @@ Valid (e ∷ h) = Allowed h e × Valid h
 
 abbrev pub SoundAt : List Event → Type 0
 SoundAt h = Sound (isProcess h) (isNamespace h) (placeOf h) (parentOf h) (levelOf h) (λ (k : Kind). mapOf k h)
+
+-- each ID on the parent side of namespace 0's line is in it
+root-covered : (z : ℕ) → OnParentSide (fixedLine ∷ []) z → HasLine (fixedLine ∷ []) z
+root-covered z (x, p) = in-first (p .which) (p .offset) (p .in-range) (p .below-count) (p .parent-is)
+  where
+    in-first : (i o : ℕ) → i < 1 → o < getD (fixedLine ∷ []) i noLine .count → z ≡ getD (fixedLine ∷ []) i noLine .parent + o → HasLine (fixedLine ∷ []) z
+    in-first zero o r b e = (0, omega arith, (omega arith, omega arith))
+    in-first (suc i) o r b e = absurd (omega arith)
+
+some-none : {A : Type 0} {x : A} → some x ≡ none → ⊥
+some-none e = let z : _≡_ {A = ℕ} 0 1 = cc in omega arith
 
 sound-start : SoundAt []
 unfolding isProcess isNamespace placeOf parentOf levelOf mapOf goodOf boundedOf fitsOf allApart
@@ -92,7 +111,10 @@ sound-start = record {
   levelled = λ m e h. absurd (h (eqb-true m 0 e));
   shallow = λ m. omega arith;
   good = λ k m. by-test (eqb m 0) (λ t. rw t) (λ t. rw t);
+  counted = λ k m. by-test (eqb m 0) (λ t. rw t (omega arith, omega arith)) (λ t. rw t tt);
+  covered = λ k m z o. by-test (eqb m 0) (λ t. root-covered z (rw t at o)) (λ t. absurd (not-suc-le-zero (rw t at (o .1 .in-range))));
   made = λ k m f. rw f;
+  root-written = λ k e. some-none e;
 }
 
 sound-step : (e : Event) (h : List Event) → Allowed h e → SoundAt h → SoundAt (e ∷ h)
@@ -104,7 +126,7 @@ sound-step (cloned c q n) h a s =
 sound-step (unshared c n) h a s =
     moves _ _ _ _ _ _ (makes _ _ _ _ _ _ s n (placeOf h c) (a .unused) (s .placed c (a .caller)) (a .room)) c n (rw (eq-eqb n n refl))
 sound-step (joined c n) h a s = moves _ _ _ _ _ _ s c n (a .target)
-sound-step (mapped k q text) h a s = writes _ _ _ _ _ _ s k (placeOf h q) text (s .placed q (a .process))
+sound-step (mapped k q text) h a s = writes _ _ _ _ _ _ s k (placeOf h q) text (s .placed q (a .process)) (a .unwritten) (a .covered)
 sound-step (changed k c new) h a s = s
 sound-step (grouped c list) h a s = s
 

@@ -1,31 +1,64 @@
 -- On tables that a list of calls leaves, the bounds of the definitions are never met. Assumes nothing.
 use Prim.Native.Nat.{ℕ, zero, suc, _≤_, _<_}
-use mathlib.Core.Path.{_≡_, sym, ap, _∙_}
+use mathlib.Core.Path.{_≡_, refl, sym, ap, _∙_, subst}
 use mathlib.Core.Bool.{Bool, true, false, true≢false}
-use mathlib.Core.List.{List}
+use mathlib.Core.List.{List, []}
+use mathlib.Core.Option.{Option, none, some}
 use mathlib.Core.Logic.{_↔_}
 use native.Mathlib.Omega.{arith}
 use lib.Dec.{eqb}
+use lib.ListN.{length}
 use borrow.Author.Tests.{eq-eqb, ne-eqb, eqb-true, eqb-false}
 use Rattle.capability.specs.Sets.{holds}
+use Rattle.idmap.specs.declared.Line.{Line}
+use Rattle.idmap.specs.declared.Translated.{Translated}
+use Rattle.idmap.specs.declared.Translated.the-variants.{Id, Unmapped}
+use Rattle.idmap.specs.Lookup.{out, thenId, back}
+use Rattle.idmap.specs.Good.{maxLines}
+use Rattle.idmap.specs.Cover.{HasLine}
+use Rattle.idmap.proofs.Goodness.{good-means}
+use Rattle.records.specs.declared.Kind.{Kind}
+use Rattle.records.specs.declared.MapState.the-variants.{Unwritten, Written}
 use Rattle.records.specs.declared.Process.{Process}
+use Rattle.records.specs.Records.{mapIn}
 use Rattle.tables.specs.Tables.{State, processAt, namespaceAt}
 use Rattle.hierarchy.specs.Walks.{heightOf, ownedBy, holdsIn, capableIn}
 use Rattle.credentials.specs.declared.translate.Way.the-variants.{Out, Back}
 use Rattle.calls.specs.Calls.{Request}
 use Rattle.prelude.proofs.Tests.{by-test, and-left, and-right, and-i}
-use Rattle.claims.specs.Translation.{byLevels}
+use Rattle.claims.specs.Translation.{outBy, backBy, byLevels}
 use Rattle.claims.specs.Events.{Event}
-use Rattle.claims.specs.Words.{isNamespace, levelOf}
+use Rattle.claims.specs.Words.{Held, isNamespace, parentOf, levelOf, mapOf, orNone, linesOf, held}
+use Rattle.claims.specs.TopLevel.{OnParentSide, Has}
 use Rattle.claims.specs.History.{run, history, events, AllFit}
-use Rattle.claims.specs.Bounds.{HoldsCapability, member, inherited, owner, Bounds}
-use Rattle.claims.proofs.Matching.{Matched}
+use Rattle.claims.specs.Bounds.{HoldsCapability, member, inherited, owner, linesAt, Bounds}
+use Rattle.claims.specs.Agreement.{heldIn, stateFor, Agreed}
+use Rattle.claims.proofs.Sound.{Counted}
 use Rattle.claims.proofs.Allowed.{SoundAt, sound}
+use Rattle.claims.proofs.Carried.{held-small, few-groups}
+use Rattle.claims.proofs.Agree.{lines-of}
 use Rattle.claims.proofs.Stores.{process-in-range, namespace-in-range}
 use Rattle.claims.proofs.Translating.{levels-history}
 use Rattle.claims.proofs.Theorem.{reached, by-history}
 
-module _ (s : State) (h : List Event) (a : Matched s h) (d : SoundAt h) where
+-- ---- through no lines nothing is found
+module _ (up : ℕ → ℕ) (lines : ℕ → List Line) where
+  nothing-out : (f n x : ℕ) → (n ≡ 0 → ⊥) → lines n ≡ [] → outBy up lines f n x ≡ Unmapped
+  unfolding outBy out
+  nothing-out zero n x z e = rw (ne-eqb n 0 z)
+  nothing-out (suc f) n x z e = rw (ne-eqb n 0 z, e)
+
+  none-then : (t : Translated) → thenId t (λ z. back [] z) ≡ Unmapped
+  unfolding out
+  none-then (Id z) = refl
+  none-then Unmapped = refl
+
+  nothing-back : (f n y : ℕ) → (n ≡ 0 → ⊥) → lines n ≡ [] → backBy up lines f n y ≡ Unmapped
+  unfolding backBy
+  nothing-back zero n y z e = rw (ne-eqb n 0 z)
+  nothing-back (suc f) n y z e = rw (ne-eqb n 0 z, e) (none-then (backBy up lines f (up n) y))
+
+module _ (s : State) (h : List Event) (a : Agreed s h) (d : SoundAt h) where
   -- the tables' own levels and parents
   level-of-parent : (n : ℕ) → namespaceAt s n .live ≡ true → (n ≡ 0 → ⊥) → namespaceAt s n .level ≡ suc (namespaceAt s (namespaceAt s n .parent) .level)
   level-of-parent n t f =
@@ -116,6 +149,35 @@ module _ (s : State) (h : List Event) (a : Matched s h) (d : SoundAt h) where
     capable-rules n t =
         ((λ e. walk-rules (heightOf s n) n e), (λ r. rules-walk (heightOf s n) n t (let g = height-is n in omega arith) r))
 
+  -- ---- what stands in the tables
+  lines-are : (k : Kind) (n : ℕ) → linesAt s k n ≡ linesOf k h n
+  lines-are k n = sym (lines-of (mapIn k (namespaceAt s n))) ∙ ap orNone (a .namespace-map k n)
+
+  counts : (o : Option (List Line)) (c : ℕ) → Counted o → stateFor o ≡ Written c → (1 ≤ c) × (c ≤ maxLines) × (length (orNone o) ≡ c)
+  counts none c b e = absurd (let z : _≡_ {A = ℕ} 0 1 = cc in omega arith)
+  counts (some ls) c b e = let f : length ls ≡ c = cc in (omega (arith, b .0), omega (arith, b .1), f)
+
+  line-counts : (k : Kind) (n c : ℕ) → mapIn k (namespaceAt s n) .state ≡ Written c → (1 ≤ c) × (c ≤ maxLines) × (length (linesAt s k n) ≡ c)
+  line-counts k n c e = rw (lines-are k n) (counts (mapOf k h n) c (d .counted k n) (sym (a .namespace-state k n) ∙ e))
+
+  has-line : (k : Kind) (n z : ℕ) → OnParentSide (linesAt s k n) z → HasLine (linesAt s k (namespaceAt s n .parent)) z
+  has-line k n z o =
+      subst (λ (ls : List Line). HasLine ls z) (sym (lines-are k (namespaceAt s n .parent) ∙ ap (linesOf k h) (a .namespace-parent n)))
+      (d .covered k n z (subst (λ (ls : List Line). OnParentSide ls z) (lines-are k n) o))
+
+  unwritten-none : (o : Option (List Line)) → stateFor o ≡ Unwritten → o ≡ none
+  unwritten-none none e = refl
+  unwritten-none (some ls) e = absurd (let z : _≡_ {A = ℕ} 0 1 = cc in omega arith)
+
+  -- namespace 0's map is written, and through no lines nothing is found
+  translates-nothing : (k : Kind) (n x : ℕ) → mapOf k h n ≡ none → (byLevels s .out k n x ≡ Unmapped) × (byLevels s .back k n x ≡ Unmapped)
+  translates-nothing k n x e =
+      let z : n ≡ 0 → ⊥ = λ q. d .root-written k (ap (mapOf k h) (sym q) ∙ e) in
+      let u = levels-history s h a d in (
+        (λ i. u i .out k n x) ∙ nothing-out (parentOf h) (linesOf k h) (levelOf h n) n x z (ap orNone e),
+        (λ i. u i .back k n x) ∙ nothing-back (parentOf h) (linesOf k h) (levelOf h n) n x z (ap orNone e),
+      )
+
 pub bounds : (rs : List Request) → AllFit rs → Bounds rs
 bounds rs f =
     let s = run rs in
@@ -125,12 +187,18 @@ bounds rs f =
     let a = r .agree in
     record {
       walk = λ i n c t u. capable-rules s h a d (processAt s i) c n u;
-      out = λ k n x y small. by-history (byLevels s) s h a d (levels-history s h a d) k Out n x small y;
-      back = λ k n y x small. by-history (byLevels s) s h a d (levels-history s h a d) k Back n y small x;
+      out = λ k n x y small. by-history (byLevels s) s h d (levels-history s h a d) k Out n x small y;
+      back = λ k n y x small. by-history (byLevels s) s h d (levels-history s h a d) k Back n y small x;
       process-in-range = λ i t. rw (a .process-places) at (process-in-range s i t);
       namespace-in-range = λ n t. rw (a .namespace-places) at (namespace-in-range s n t);
       place-live = λ i t.
           a .namespace-live (processAt s i .namespace) ∙ ap (isNamespace h) (a .process-place i) ∙ d .placed (suc i) (sym (a .process-live i) ∙ t);
       parent-live = parent-is-live s h a d;
       levels = level-most s h a d;
+      carried-ids = λ k i y q. held-small k h (r .valid) (suc i) y (subst (λ (m : Held). Has y (held m)) (a .process-ids k i) q);
+      group-count = λ i. rw (a .process-count i) (few-groups h (r .valid) (suc i));
+      line-count = line-counts s h a d;
+      lines-good = λ k n. rw (lines-are s h a d k n) (good-means (linesOf k h n) .0 (d .good k n));
+      covered = has-line s h a d;
+      unwritten = λ k n x e. translates-nothing s h a d k n x (unwritten-none s h a d (mapOf k h n) (sym (a .namespace-state k n) ∙ e));
     }

@@ -7,21 +7,24 @@ use mathlib.Core.List.{List, [], _∷_, map}
 use mathlib.Core.Logic.{_⊎_, inl, inr, ⊎-elim}
 use native.Mathlib.Omega.{arith}
 use lib.Dec.{eqb}
+use lib.ListN.{length, length-map}
 use borrow.Author.Tests.{eq-eqb, eqb-true, eqb-false}
+use Rattle.idmap.specs.declared.Line.{Line}
 use Rattle.idmap.specs.declared.Translated.the-variants.{Id}
 use Rattle.idmap.specs.Good.{noId}
 use Rattle.idmap.specs.Lookup.{orNoId}
 use Rattle.records.specs.declared.Kind.{Kind}
 use Rattle.records.specs.declared.Kind.the-variants.{User, Group}
 use Rattle.records.specs.declared.Ids.{Ids}
-use Rattle.prelude.proofs.Tests.{by-test, and-left, and-right}
+use Rattle.prelude.proofs.Tests.{by-test, cond-elim, and-left, and-right}
 use Rattle.claims.specs.Events.{Event, other, forked, cloned, unshared, joined, mapped, changed, grouped}
-use Rattle.claims.specs.Words.{isProcess, isNamespace, placeOf, parentOf, levelOf, mapOf, linesOf, standsFor, chosenOf, changedIds, held, heldOf, sameKind}
-use Rattle.claims.specs.Translation.{Under, here, below}
+use Rattle.claims.specs.Words.{Held, isProcess, isNamespace, placeOf, parentOf, levelOf, mapOf, linesOf, standsFor, chosenOf, changedIds, held, heldOf, sameKind}
+use Rattle.claims.specs.Translation.{Out, top, through, Under, here, below}
 use Rattle.claims.specs.TopLevel.{TopLevel, IsUnder, Stands, Has, Descends, Entered}
 use Rattle.claims.proofs.Levels.{out-is, passes}
 use Rattle.claims.proofs.Allowed.{Allowed, Valid, SoundAt, sound, Chosen, AllStand, Changes, Groups}
-use Rattle.claims.proofs.Kept.{same-kind, parent-kept, under-before, out-kept}
+use Rattle.claims.proofs.Sound.{same-kind}
+use Rattle.claims.proofs.Kept.{parent-kept, under-before, out-kept}
 
 -- kernel ID y of process p is accounted for in top-level namespace b
 abbrev pub Accounted : Kind → List Event → ℕ → ℕ → ℕ → Type 0
@@ -241,3 +244,52 @@ pub carried : (k : Kind) (h : List Event) → Valid h → CarriedAt k h
 unfolding Valid
 carried k [] v p b y t l u i = carried-start k p b y t l u i
 carried k (e ∷ h) v p b y t l u i = carried-step k e h (v .0) (sound h (v .1)) (carried k h (v .1)) p b y t l u i
+
+-- ---- what is carried are kernel IDs, and at most 16 groups
+stands-small : (up : ℕ → ℕ) (lines : ℕ → List Line) (n x y : ℕ) → Out up lines n x y → y < noId
+stands-small up lines n x y (top e f b) = omega arith
+stands-small up lines n x y (through f z p o) = stands-small up lines (up n) z y o
+
+no-zero-big : (y : ℕ) → Has y (0 ∷ 0 ∷ 0 ∷ []) → y < noId
+unfolding Has
+no-zero-big y (inl e) = omega arith
+no-zero-big y (inr (inl e)) = omega arith
+no-zero-big y (inr (inr (inl e))) = omega arith
+no-zero-big y (inr (inr (inr i))) = absurd i
+
+pub held-small : (k : Kind) (h : List Event) → Valid h → (p y : ℕ) → Has y (held (heldOf k h p)) → y < noId
+unfolding Valid heldOf
+held-small k [] v p y i = no-zero-big y i
+held-small k (other ∷ h) v p y i = held-small k h (v .1) p y i
+held-small k (forked c q ∷ h) v p y i =
+    by-test (eqb p q) (λ t. held-small k h (v .1) c y (rw t at i)) (λ t. held-small k h (v .1) p y (rw t at i))
+held-small k (cloned c q n ∷ h) v p y i =
+    by-test (eqb p q) (λ t. held-small k h (v .1) c y (rw t at i)) (λ t. held-small k h (v .1) p y (rw t at i))
+held-small k (unshared c n ∷ h) v p y i = held-small k h (v .1) p y i
+held-small k (joined c n ∷ h) v p y i = held-small k h (v .1) p y i
+held-small k (mapped j q text ∷ h) v p y i = held-small k h (v .1) p y i
+held-small k (changed j c new ∷ h) v p y i =
+    by-test (sameKind k j && eqb p c)
+    (λ t.
+    ⊎-elim (held-small k h (v .1) c y) (λ f. stands-small (parentOf h) (linesOf k h) (placeOf h c) (f .0) y (f .1))
+    (after-change k h (sound h (v .1)) (placeOf h c) c new (subst (λ (x : Kind). Changes h x c new) (sym (same-kind k j (and-left (sameKind k j) (eqb p c) t))) (v .0)) (here refl) y (rw t at i)))
+    (λ t. held-small k h (v .1) p y (rw t at i))
+held-small User (grouped c list ∷ h) v p y i = held-small User h (v .1) p y i
+held-small Group (grouped c list ∷ h) v p y i =
+    by-test (eqb p c)
+    (λ t.
+    ⊎-elim (held-small Group h (v .1) c y) (λ f. stands-small (parentOf h) (linesOf Group h) (placeOf h c) (f .0) y (f .1))
+    (after-groups h (sound h (v .1)) (placeOf h c) c list (v .0) (here refl) y (rw t at i)))
+    (λ t. held-small Group h (v .1) p y (rw t at i))
+
+pub few-groups : (h : List Event) → Valid h → (p : ℕ) → length (heldOf Group h p .more) ≤ 16
+unfolding Valid heldOf
+few-groups [] v p = omega arith
+few-groups (other ∷ h) v p = few-groups h (v .1) p
+few-groups (forked c q ∷ h) v p = cond-elim (λ (m : Held). length (m .more) ≤ 16) (eqb p q) (few-groups h (v .1) c) (few-groups h (v .1) p)
+few-groups (cloned c q n ∷ h) v p = cond-elim (λ (m : Held). length (m .more) ≤ 16) (eqb p q) (few-groups h (v .1) c) (few-groups h (v .1) p)
+few-groups (unshared c n ∷ h) v p = few-groups h (v .1) p
+few-groups (joined c n ∷ h) v p = few-groups h (v .1) p
+few-groups (mapped k q text ∷ h) v p = few-groups h (v .1) p
+few-groups (changed k c new ∷ h) v p = cond-elim (λ (m : Held). length (m .more) ≤ 16) (sameKind Group k && eqb p c) (few-groups h (v .1) c) (few-groups h (v .1) p)
+few-groups (grouped c list ∷ h) v p = cond-elim (λ (m : Held). length (m .more) ≤ 16) (eqb p c) (simp length-map (v .0 .few)) (few-groups h (v .1) p)

@@ -184,7 +184,7 @@ module _ (by : Translation) (s : State) (P : Outcome → Type 0) (no : (e : ℕ)
       (λ t. no 1 is-1)))
 
   pub set-groups-case : (c : ℕ) (list : List ℕ)
-      → ((i : ℕ) (l : List ℕ) → processNamed s c ≡ At i → kernelGroups by (processAt s i .namespace) list ≡ some l
+      → ((i : ℕ) (l : List ℕ) → processNamed s c ≡ At i → ltb 16 (length list) ≡ false → kernelGroups by (processAt s i .namespace) list ≡ some l
       → P (record { reply = done; tables = putProcess s i (withList (processAt s i) (groupList l)) }))
       → P (setGroupsOf by s c list)
   unfolding setGroupsOf
@@ -196,7 +196,7 @@ module _ (by : Translation) (s : State) (P : Outcome → Type 0) (no : (e : ℕ)
       (λ u.
       test-case P (namespaceAt s (processAt s i .namespace) .deny) (λ v. no 1 is-1) (λ v.
       test-case P (ltb 16 (length list)) (λ w. no 22 is-22) (λ w.
-      list-case P (kernelGroups by (processAt s i .namespace) list) (no 22 is-22) (λ l g. f i l e g))))
+      list-case P (kernelGroups by (processAt s i .namespace) list) (no 22 is-22) (λ l g. f i l e w g))))
       (λ u. no 1 is-1))
       (λ t. no 1 is-1))
 

@@ -1,21 +1,23 @@
 -- The writes of the map files and of the setgroups file: what each leaves agrees with its history, and it was allowed. Assumes nothing.
 use Prim.Native.Nat.{ℕ, zero, suc, _-_, _<_}
-use mathlib.Core.Path.{_≡_, refl, sym, ap, _∙_}
+use mathlib.Core.Path.{_≡_, refl, sym, ap, _∙_, subst}
 use mathlib.Core.Bool.{Bool, true, false, cond, _&&_, true≢false}
 use mathlib.Core.List.{List, [], _∷_}
 use mathlib.Core.Option.{Option, none, some}
+use native.Mathlib.Nat.{le-of-suc-le-suc}
 use native.Mathlib.Omega.{arith}
-use lib.Dec.{eqb, leb}
-use lib.ListN.{length, replicate}
+use lib.Dec.{eqb}
+use lib.ListN.{length, getD, replicate}
 use lib.Seq.{take-append-seam}
-use borrow.Author.Tests.{leb-true, le-ltb, ne-eqb}
+use borrow.Author.Tests.{le-ltb, ne-eqb}
 use Rattle.idmap.specs.declared.Line.{Line}
 use Rattle.idmap.specs.Line.{less, more, noLine}
 use Rattle.idmap.specs.Lookup.{reachOf}
-use Rattle.idmap.specs.Good.{maxLines, goodOf}
-use Rattle.idmap.specs.Cover.{coveredIn, coveredOf}
-use Rattle.idmap.specs.Text.{textLines, checked, mapLines, padded}
-use Rattle.idmap.proofs.Goodness.{good-first}
+use Rattle.idmap.specs.Good.{maxLines, goodOf, Within}
+use Rattle.idmap.specs.Cover.{coveredIn, coveredOf, HasLine}
+use Rattle.idmap.specs.Text.{mapLines, padded}
+use Rattle.idmap.proofs.Goodness.{good-first, good-others}
+use Rattle.idmap.proofs.Covers.{covered-means}
 use Rattle.lifted_map.specs.Lift.{liftedOf}
 use Rattle.records.specs.declared.Kind.{Kind}
 use Rattle.records.specs.declared.Kind.the-variants.{User, Group}
@@ -32,12 +34,14 @@ use Rattle.mapping.specs.Calls.{allCovered, writtenMap, withMap, mappedTables, 
 use Rattle.calls.specs.declared.Call.the-variants.{WriteMap, WriteSetgroups}
 use Rattle.claims.specs.Events.{Event, other, mapped}
 use Rattle.claims.specs.Words.{isProcess, isNamespace, placeOf, parentOf, levelOf, mapOf, orNone, heldOf, sameKind}
-use Rattle.claims.specs.Agreement.{linesIf, writtenIn}
-use Rattle.claims.proofs.Matching.{liftedBy, Matched, liftOf}
+use Rattle.claims.specs.Agreement.{linesIf, writtenIn, stateFor, Agreed}
+use Rattle.claims.specs.LiftedMaps.{liftedBy, liftOf}
+use Rattle.claims.proofs.Beside.{Beside, keeps-lifted, stores-lifted}
 use Rattle.claims.proofs.Allowed.{SoundAt}
-use Rattle.claims.proofs.Stores.{namespace-in-range}
-use Rattle.claims.proofs.Agree.{picked-same, stores-namespace, stores-lifted, lines-of, caller-live, caller-place}
-use Rattle.claims.proofs.Kept.{same-kind}
+use Rattle.claims.specs.TopLevel.{OnParentSide}
+use Rattle.claims.proofs.Stores.{cond-ap, namespace-in-range}
+use Rattle.claims.proofs.Agree.{picked-same, stores-namespace, keeps-tables, lines-of, caller-live, caller-place}
+use Rattle.claims.proofs.Sound.{Counted, map-lines-good, map-lines-counted, same-kind}
 use Rattle.prelude.proofs.Tests.{by-test, and-left, and-right}
 use Rattle.claims.proofs.Steps.{Next, nothing-happened, After}
 use Rattle.claims.proofs.Cases.{write-map-case, write-setgroups-case}
@@ -63,9 +67,6 @@ unfolding withDeny
 deny-map User n b = refl
 deny-map Group n b = refl
 
-no-some : {ls : List Line} → none ≡ some ls → ⊥
-no-some e = let z : _≡_ {A = ℕ} 0 1 = cc in omega arith
-
 first-covered : (l : Line) (ls : List Line) → allCovered [] (l ∷ ls) ≡ true → coveredOf [] (l .parent) (l .count) ≡ true
 unfolding allCovered
 first-covered l ls c = and-left (coveredOf [] (l .parent) (l .count)) (allCovered [] ls) c
@@ -81,26 +82,29 @@ unfolding padded
 written-lines ls = ap some (take-append-seam ls (replicate (maxLines - length ls) noLine))
 
 -- the lines of a text are some, and good
-lines-checked : (o : Option (List Line)) (ls : List Line) → checked o ≡ some ls → (0 < length ls) × (goodOf ls ≡ true)
-unfolding checked
-lines-checked none ls e = absurd (no-some e)
-lines-checked (some ms) ls e =
-    by-test (leb 1 (length ms) && (leb (length ms) maxLines && goodOf ms))
-    (λ t.
-    let q : ms ≡ ls = let r : some ms ≡ some ls = sym (rw t) ∙ e in cc in
-    let h = and-left (leb 1 (length ms)) (leb (length ms) maxLines && goodOf ms) t in
-    let g = and-right (leb (length ms) maxLines) (goodOf ms) (and-right (leb 1 (length ms)) (leb (length ms) maxLines && goodOf ms) t) in
-    rw (← q) (leb-true 1 (length ms) h, g))
-    (λ t. absurd (no-some (sym (rw t) ∙ e)))
-
 lines-written : (text : List ℕ) (ls : List Line) → mapLines text ≡ some ls → (0 < length ls) × (goodOf ls ≡ true)
-unfolding mapLines
-lines-written text ls e = lines-checked (textLines text) ls e
+lines-written text ls e = (subst Counted e (map-lines-counted text) .0, subst (λ (o : Option (List Line)). goodOf (orNone o) ≡ true) e (map-lines-good text))
 
 -- over no lines nothing is covered
 covered-above : (ls : List Line) → (0 < length ls) × (goodOf ls ≡ true) → allCovered [] ls ≡ true → ⊥
 covered-above [] h c = omega arith
 covered-above (l ∷ ls) h c = let b = good-first l ls (h .1) in uncovered (l .parent) (l .count) (b .some) (first-covered l ls c)
+
+-- each ID on the parent side of covered lines has a line above
+line-covered : (above : List Line) (ls : List Line) (i z : ℕ) → goodOf above ≡ true → goodOf ls ≡ true → allCovered above ls ≡ true → i < length ls
+    → Within z (getD ls i noLine .parent) (getD ls i noLine .count) → HasLine above z
+unfolding allCovered
+line-covered above [] i z g f c h w = absurd (omega arith)
+line-covered above (l ∷ ls) zero z g f c h w =
+    covered-means above (l .parent) (l .count) g (good-first l ls f .parent-fits) .0 (and-left (coveredOf above (l .parent) (l .count)) (allCovered above ls) c) z w
+line-covered above (l ∷ ls) (suc i) z g f c h w =
+    line-covered above ls i z g (good-others l ls f) (and-right (coveredOf above (l .parent) (l .count)) (allCovered above ls) c) (le-of-suc-le-suc h) w
+
+each-covered : (above ls : List Line) → goodOf above ≡ true → goodOf ls ≡ true → allCovered above ls ≡ true → (z : ℕ) → OnParentSide ls z → HasLine above z
+each-covered above ls g f c z (x, p) =
+    let e = p .parent-is in
+    let b = p .below-count in
+    line-covered above ls (p .which) z g f c (p .in-range) (omega arith, omega arith)
 
 unwritten-is : (m : IdMap) → isWritten (m .state) ≡ false → writtenIn m ≡ none
 unwritten-is m e = by-state (m .state) e
@@ -109,7 +113,7 @@ unwritten-is m e = by-state (m .state) e
     by-state Unwritten e = refl
     by-state (Written n) e = absurd (true≢false e)
 
-module _ (by : Translation) (s : State) (h : List Event) (a : Matched s h) (d : SoundAt h) (text list : List ℕ) where
+module _ (by : Translation) (s : State) (h : List Event) (a : Agreed s h) (b : Beside s h) (d : SoundAt h) (text list : List ℕ) where
   -- the namespace of a process that is named
   module _ (name p : ℕ) (e : processNamed s name ≡ At p) where
     target : ℕ
@@ -127,6 +131,14 @@ module _ (by : Translation) (s : State) (h : List Event) (a : Matched s h) (d : 
     maps-after User Group ls m i = picked-same (mapOf Group h) i (processAt s p .namespace) _ (a .namespace-map Group (processAt s p .namespace))
     maps-after Group User ls m i = picked-same (mapOf User h) i (processAt s p .namespace) _ (a .namespace-map User (processAt s p .namespace))
 
+    states-after : (j k : Kind) (ls : List Line) → mapLines text ≡ some ls → (i : ℕ)
+        → cond (eqb i (processAt s p .namespace)) (mapIn k (withMap j (namespaceAt s (processAt s p .namespace)) (writtenMap ls)) .state) (stateFor (mapOf k h i)) ≡ stateFor (cond (sameKind k j && eqb i (placeOf h name)) (mapLines text) (mapOf k h i))
+    unfolding withMap
+    states-after User User ls m i = rw (caller-place s h a name p e, m) (sym (cond-ap stateFor (eqb i (placeOf h name)) (some ls) (mapOf User h i)))
+    states-after Group Group ls m i = rw (caller-place s h a name p e, m) (sym (cond-ap stateFor (eqb i (placeOf h name)) (some ls) (mapOf Group h i)))
+    states-after User Group ls m i = picked-same (λ (n : ℕ). stateFor (mapOf Group h n)) i (processAt s p .namespace) _ (a .namespace-state Group (processAt s p .namespace))
+    states-after Group User ls m i = picked-same (λ (n : ℕ). stateFor (mapOf User h n)) i (processAt s p .namespace) _ (a .namespace-state User (processAt s p .namespace))
+
     -- the lifted maps alike
     lifted-after : (k j : Kind) (ls : List Line) → mapLines text ≡ some ls → (i : ℕ)
         → cond (sameKind k j && eqb i (processAt s p .namespace)) (liftedOf (liftedAt s j (namespaceAt s (processAt s p .namespace) .parent)) (namespaceAt s (processAt s p .namespace) .parent) ls) (liftOf k h i)
@@ -136,7 +148,7 @@ module _ (by : Translation) (s : State) (h : List Event) (a : Matched s h) (d : 
         (λ t.
         let u : namespaceAt s (processAt s p .namespace) .parent ≡ parentOf h (placeOf h name) = a .namespace-parent (processAt s p .namespace) ∙ ap (parentOf h) (caller-place s h a name p e) in
         let q : liftedAt s j (namespaceAt s (processAt s p .namespace) .parent) ≡ liftOf k h (parentOf h (placeOf h name)) =
-        a .namespace-lifted j (namespaceAt s (processAt s p .namespace) .parent)
+        b .lifted j (namespaceAt s (processAt s p .namespace) .parent)
         ∙ ap (liftOf j h) u
         ∙ ap (λ (x : Kind). liftOf x h (parentOf h (placeOf h name))) (sym (same-kind k j (and-left (sameKind k j) (eqb i (placeOf h name)) t))) in
         let r : liftedOf (liftedAt s j (namespaceAt s (processAt s p .namespace) .parent)) (namespaceAt s (processAt s p .namespace) .parent) ls ≡ liftedBy (liftOf k h (parentOf h (placeOf h name))) (parentOf h (placeOf h name)) (mapLines text) =
@@ -144,14 +156,12 @@ module _ (by : Translation) (s : State) (h : List Event) (a : Matched s h) (d : 
         rw (r, caller-place s h a name p e, t))
         (λ t. rw (caller-place s h a name p e, t))
 
-    -- lines that are covered have a map above
-    parent-written : (k : Kind) (ls : List Line) → mapLines text ≡ some ls → allCovered (linesOf (mapIn k (namespaceAt s (namespaceAt s (processAt s p .namespace) .parent)))) ls ≡ true
-        → mapOf k h (parentOf h (placeOf h name)) ≡ none → ⊥
-    parent-written k ls m c q =
+    -- the lines above are those of the history
+    above-is : (k : Kind) → linesOf (mapIn k (namespaceAt s (namespaceAt s (processAt s p .namespace) .parent))) ≡ orNone (mapOf k h (parentOf h (placeOf h name)))
+    above-is k =
         let u : namespaceAt s (processAt s p .namespace) .parent ≡ parentOf h (placeOf h name) = a .namespace-parent (processAt s p .namespace) ∙ ap (parentOf h) (caller-place s h a name p e) in
-        let none-above : linesOf (mapIn k (namespaceAt s (namespaceAt s (processAt s p .namespace) .parent))) ≡ [] =
-        sym (lines-of (mapIn k (namespaceAt s (namespaceAt s (processAt s p .namespace) .parent)))) ∙ ap orNone (a .namespace-map k (namespaceAt s (processAt s p .namespace) .parent) ∙ ap (mapOf k h) u ∙ q) in
-        covered-above ls (lines-written text ls m) (rw none-above at c)
+        sym (lines-of (mapIn k (namespaceAt s (namespaceAt s (processAt s p .namespace) .parent))))
+        ∙ ap orNone (a .namespace-map k (namespaceAt s (processAt s p .namespace) .parent) ∙ ap (mapOf k h) u)
 
     mapped-next : (k : Kind) (ls : List Line) → mapLines text ≡ some ls → isWritten (mapIn k (namespaceAt s (processAt s p .namespace)) .state) ≡ false
         → allCovered (linesOf (mapIn k (namespaceAt s (namespaceAt s (processAt s p .namespace) .parent)))) ls ≡ true
@@ -159,38 +169,46 @@ module _ (by : Translation) (s : State) (h : List Event) (a : Matched s h) (d : 
     unfolding mappedTables isProcess isNamespace placeOf parentOf levelOf mapOf liftOf heldOf
     mapped-next k ls m w c =
         let n = processAt s p .namespace in
+        let g : allCovered (orNone (mapOf k h (parentOf h (placeOf h name)))) ls ≡ true = rw (above-is k) at c in
         record {
-          agree = stores-lifted (putNamespace s n (withMap k (namespaceAt s n) (writtenMap ls))) _ _ _ _ _ _ _ _
-              (stores-namespace s _ _ _ _ _ _ _ _ a n (withMap k (namespaceAt s n) (writtenMap ls)) (namespace-in-range s n target-live) _ _ _ _
+          agree = keeps-tables (putNamespace s n (withMap k (namespaceAt s n) (writtenMap ls))) _ _ _ _ _ _ _
+              (stores-namespace s _ _ _ _ _ _ _ a n (withMap k (namespaceAt s n) (writtenMap ls)) (namespace-in-range s n target-live) _ _ _ _
               (λ i. picked-same (isNamespace h) i n _ (map-live k (namespaceAt s n) (writtenMap ls) ∙ a .namespace-live n))
               (λ i. picked-same (parentOf h) i n _ (map-parent k (namespaceAt s n) (writtenMap ls) ∙ a .namespace-parent n))
               (λ i. picked-same (levelOf h) i n _ (map-level k (namespaceAt s n) (writtenMap ls) ∙ a .namespace-level n))
-              (λ j i. maps-after k j ls m i))
-              k n _ (let r = namespace-in-range s n target-live in let p = a .namespace-places in let q = a .lifted-places k in omega arith) _
+              (λ j i. maps-after k j ls m i)
+              (λ j i. states-after k j ls m i))
+              _ _;
+          beside = stores-lifted (putNamespace s n (withMap k (namespaceAt s n) (writtenMap ls))) (λ (j : Kind). liftOf j h)
+              (keeps-lifted s (λ (j : Kind). liftOf j h) _ _ b) k n _
+              (let r = namespace-in-range s n target-live in let q = a .namespace-places in omega arith) _
               (λ j i. lifted-after j k ls m i);
           allowed = record {
             process = caller-live s h a name p e;
             unwritten = rw (← caller-place s h a name p e) (sym (a .namespace-map k n) ∙ unwritten-is (mapIn k (namespaceAt s n)) w);
-            parent-written = parent-written k ls m c;
+            parent-written = λ q. covered-above ls (lines-written text ls m) (rw q at g);
+            covered = λ z o. each-covered _ ls (d .good k (parentOf h (placeOf h name))) (lines-written text ls m .1) g z (rw m at o);
           };
         }
 
     -- a setting changes nothing that a history tells
-    set-next : (b : Bool) → Next h other (putNamespace s (processAt s p .namespace) (withDeny (namespaceAt s (processAt s p .namespace)) b))
+    set-next : (t : Bool) → Next h other (putNamespace s (processAt s p .namespace) (withDeny (namespaceAt s (processAt s p .namespace)) t))
     unfolding withDeny
-    set-next b =
+    set-next t =
         let n = processAt s p .namespace in
         nothing-happened _ h
-        (stores-namespace s _ _ _ _ _ _ _ _ a n (withDeny (namespaceAt s n) b) (namespace-in-range s n target-live) _ _ _ _
+        (stores-namespace s _ _ _ _ _ _ _ a n (withDeny (namespaceAt s n) t) (namespace-in-range s n target-live) _ _ _ _
         (λ i. picked-same (isNamespace h) i n _ (a .namespace-live n))
         (λ i. picked-same (parentOf h) i n _ (a .namespace-parent n))
         (λ i. picked-same (levelOf h) i n _ (a .namespace-level n))
-        (λ k i. picked-same (mapOf k h) i n _ (ap writtenIn (deny-map k (namespaceAt s n) b) ∙ a .namespace-map k n)))
+        (λ k i. picked-same (mapOf k h) i n _ (ap writtenIn (deny-map k (namespaceAt s n) t) ∙ a .namespace-map k n))
+        (λ k i. picked-same (λ (i : ℕ). stateFor (mapOf k h i)) i n _ (ap (λ (m : IdMap). m .state) (deny-map k (namespaceAt s n) t) ∙ a .namespace-state k n)))
+        (keeps-lifted s (λ (k : Kind). liftOf k h) _ _ b)
 
   pub write-map-next : (k : Kind) (c name : ℕ) → After h (WriteMap k c name) text list (writeMapOf by s k c name text)
   write-map-next k c name =
-      write-map-case by s (After h (WriteMap k c name) text list) (λ e i. nothing-happened s h a) k c name text (λ p ls e w m g. mapped-next name p e k ls m w g)
+      write-map-case by s (After h (WriteMap k c name) text list) (λ e i. nothing-happened s h a b) k c name text (λ p ls e w m g. mapped-next name p e k ls m w g)
 
   pub write-setgroups-next : (c name : ℕ) → After h (WriteSetgroups c name) text list (writeSetgroupsOf s c name text)
   write-setgroups-next c name =
-      write-setgroups-case by s (After h (WriteSetgroups c name) text list) (λ e i. nothing-happened s h a) c name text (λ p b e. set-next name p e b)
+      write-setgroups-case by s (After h (WriteSetgroups c name) text list) (λ e i. nothing-happened s h a b) c name text (λ p t e. set-next name p e t)

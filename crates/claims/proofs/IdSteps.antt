@@ -1,13 +1,14 @@
 -- ID changes, setgroups and drop: what each leaves agrees with its history, and it was allowed. Assumes nothing.
-use Prim.Native.Nat.{ℕ, suc, _-_, _<_, _^_}
+use Prim.Native.Nat.{ℕ, suc, _-_, _≤_, _<_, _^_}
 use mathlib.Core.Path.{_≡_, refl, sym, ap, _∙_, subst}
-use mathlib.Core.Bool.{cond, _&&_}
+use mathlib.Core.Bool.{Bool, true, false, cond, _&&_}
 use mathlib.Core.List.{List, [], _∷_, map}
 use mathlib.Core.Option.{Option, none, some}
 use native.Mathlib.Omega.{arith}
 use lib.Dec.{eqb}
 use lib.ListN.{length, take, replicate}
 use lib.Seq.{take-append-seam}
+use borrow.Author.Tests.{eqb-true, ltb-false}
 use Rattle.idmap.specs.declared.Translated.{Translated}
 use Rattle.idmap.specs.declared.Translated.the-variants.{Id, Unmapped}
 use Rattle.idmap.specs.Lookup.{orNoId}
@@ -15,6 +16,7 @@ use Rattle.idmap.specs.Text.{consOf, allOf}
 use Rattle.records.specs.declared.Kind.{Kind}
 use Rattle.records.specs.declared.Kind.the-variants.{User, Group}
 use Rattle.records.specs.declared.Ids.{Ids}
+use Rattle.records.specs.declared.GroupList.{GroupList}
 use Rattle.records.specs.declared.Process.{Process}
 use Rattle.records.specs.Records.{idsIn}
 use Rattle.tables.specs.declared.find.Found.the-variants.{At}
@@ -26,14 +28,15 @@ use Rattle.calls.specs.declared.Call.the-variants.{SetIds, SetGroups, Drop}
 use Rattle.claims.specs.Events.{Event, other, changed, grouped}
 use Rattle.claims.specs.Words.{Held, isProcess, isNamespace, placeOf, parentOf, levelOf, mapOf, heldOf, standsFor, chosenOf, changedIds, sameKind}
 use Rattle.claims.specs.History.{AllSmall}
-use Rattle.claims.specs.Agreement.{moreIn, heldIn}
-use Rattle.claims.proofs.Matching.{Matched, liftOf}
+use Rattle.claims.specs.Agreement.{moreIn, heldIn, Agreed}
+use Rattle.claims.specs.LiftedMaps.{liftOf}
+use Rattle.claims.proofs.Beside.{Beside, keeps-lifted}
 use Rattle.claims.proofs.Allowed.{SoundAt, AllStand}
-use Rattle.claims.proofs.Stores.{named, process-in-range, same-number}
+use Rattle.claims.proofs.Stores.{cond-ap, named, process-in-range, same-number}
 use Rattle.claims.proofs.Agree.{picked-same, stores-process, keeps-process, caller-is, caller-live, caller-place, caller-ids}
 use Rattle.claims.proofs.Translating.{byHistory}
-use Rattle.claims.proofs.Kept.{same-kind}
-use Rattle.prelude.proofs.Tests.{by-test}
+use Rattle.claims.proofs.Sound.{same-kind}
+use Rattle.prelude.proofs.Tests.{by-test, and-right}
 use Rattle.claims.proofs.Steps.{Next, nothing-happened, After}
 use Rattle.claims.proofs.Cases.{set-ids-case, set-groups-case, drop-case}
 
@@ -47,6 +50,16 @@ ids-place : (by : Translation) (k : Kind) (p : Process) (new : Ids) → withIds 
 unfolding withUsers withGroups
 ids-place s User p new = refl
 ids-place s Group p new = refl
+
+ids-groups : (by : Translation) (k : Kind) (p : Process) (new : Ids) → withIds by k p new .supplementary ≡ p .supplementary
+unfolding withUsers withGroups
+ids-groups s User p new = refl
+ids-groups s Group p new = refl
+
+-- as many groups, whatever a test picks
+same-more : (t : Bool) (three : Ids) (more : List ℕ) (m : Held) → (t ≡ true → more ≡ m .more) → length (cond t (record { three = three; more = more }) m .more) ≡ length (m .more)
+same-more true three more m e = ap length (e refl)
+same-more false three more m e = refl
 
 -- what it carries: the new IDs of that kind
 ids-held : (j k : Kind) (by : Translation) (p : Process) (new : Ids) → heldIn j (withIds by k p new) ≡ cond (sameKind j k) (record { three = new; more = moreIn j p }) (heldIn j p)
@@ -91,7 +104,7 @@ groups-stand h n (x ∷ list) l b e =
     let r = cons-some (toOption (standsFor Group h n x)) (allOf (λ (x : ℕ). toOption (standsFor Group h n x)) list) l e in
     (b .0, (r .0, option-id (standsFor Group h n x) (r .0) (r .2)), groups-stand h n list (r .1) (b .1) (r .3))
 
-module _ (by : Translation) (s : State) (h : List Event) (a : Matched s h) (o : by ≡ byHistory h) (text list : List ℕ) where
+module _ (by : Translation) (s : State) (h : List Event) (a : Agreed s h) (b : Beside s h) (o : by ≡ byHistory h) (text list : List ℕ) where
   outs : (k : Kind) (n x : ℕ) → by .out k n x ≡ standsFor k h n x
   outs k n x = λ j. o j .out k n x
 
@@ -143,13 +156,22 @@ module _ (by : Translation) (s : State) (h : List Event) (a : Matched s h) (o : 
           rw (ids-held j k by (processAt s i) after, t, same-number m c i (caller-is s h a c i e), f))
           (λ t. rw (ids-held j k by (processAt s i) after, t) (picked-same (λ (r : ℕ). heldOf j h (suc r)) m i (heldIn j (processAt s i)) (a .process-ids j i)))
 
+      -- the groups are as they were
+      count-after : (m : ℕ) → cond (eqb m i) (withIds by k (processAt s i) after .supplementary .count) (length (heldOf Group h (suc m) .more))
+          ≡ length (cond (sameKind Group k && eqb (suc m) c) (record { three = changedIds Group h (placeOf h c) new (heldOf Group h c .three); more = heldOf Group h c .more }) (heldOf Group h (suc m)) .more)
+      count-after m =
+          picked-same (λ (r : ℕ). length (heldOf Group h (suc r) .more)) m i _ (ap (λ (g : GroupList). g .count) (ids-groups by k (processAt s i) after) ∙ a .process-count i)
+          ∙ sym (same-more (sameKind Group k && eqb (suc m) c) _ _ _ (λ t. ap (λ (r : ℕ). heldOf Group h r .more) (sym (eqb-true (suc m) c (and-right (sameKind Group k) (eqb (suc m) c) t)))))
+
       changed-next : new .real < 2 ^ 32 → new .effective < 2 ^ 32 → new .saved < 2 ^ 32 → Next h (changed k c new) (putProcess s i (withIds by k (processAt s i) after))
       unfolding isProcess isNamespace placeOf parentOf levelOf mapOf liftOf heldOf
       changed-next u v w = record {
-        agree = stores-process s _ _ _ _ _ _ _ _ a i (withIds by k (processAt s i) after) (process-in-range s i (named s c i e .1)) _ _ _
+        agree = stores-process s _ _ _ _ _ _ _ a i (withIds by k (processAt s i) after) (process-in-range s i (named s c i e .1)) _ _ _
             (λ m. picked-same (λ (r : ℕ). isProcess h (suc r)) m i _ (ids-live by k (processAt s i) after ∙ a .process-live i))
             (λ m. picked-same (λ (r : ℕ). placeOf h (suc r)) m i _ (ids-place by k (processAt s i) after ∙ a .process-place i))
-            held-after;
+            held-after
+            count-after;
+        beside = keeps-lifted s (λ (k : Kind). liftOf k h) _ _ b;
         allowed = record {
           caller = caller-live s h a c i e;
           real = record { small = u; given = x; stands = stands-x };
@@ -160,17 +182,18 @@ module _ (by : Translation) (s : State) (h : List Event) (a : Matched s h) (o : 
 
   pub set-ids-next : (k : Kind) (c : ℕ) (new : Ids) → new .real < 2 ^ 32 → new .effective < 2 ^ 32 → new .saved < 2 ^ 32 → After h (SetIds k c new) text list (setIdsOf by s k c (new .real) (new .effective) (new .saved))
   set-ids-next k c new u v w =
-      set-ids-case by s (After h (SetIds k c new) text list) (λ e i. nothing-happened s h a) k c new
+      set-ids-case by s (After h (SetIds k c new) text list) (λ e i. nothing-happened s h a b) k c new
       (λ i x y z e fx fy fz. changed-next c i e k new x y z fx fy fz u v w)
 
   -- ---- drop
   pub drop-next : (c permitted effective : ℕ) → After h (Drop c permitted effective) text list (dropOf s c permitted effective)
   unfolding withSets
   drop-next c permitted effective =
-      drop-case by s (After h (Drop c permitted effective) text list) (λ e i. nothing-happened s h a) c permitted effective (λ i e.
+      drop-case by s (After h (Drop c permitted effective) text list) (λ e i. nothing-happened s h a b) c permitted effective (λ i e.
       nothing-happened _ h
-      (keeps-process s _ _ _ _ _ _ _ _ a i (withSets (processAt s i) permitted effective) (process-in-range s i (named s c i e .1)) refl refl
-      (λ k. sets-ids k (processAt s i) permitted effective)))
+      (keeps-process s _ _ _ _ _ _ _ a i (withSets (processAt s i) permitted effective) (process-in-range s i (named s c i e .1)) refl refl
+      (λ k. sets-ids k (processAt s i) permitted effective) refl)
+      (keeps-lifted s (λ (k : Kind). liftOf k h) _ _ b))
 
   -- ---- setgroups
   module _ (c i : ℕ) (e : processNamed s c ≡ At i) (l : List ℕ) (f : kernelGroups by (processAt s i .namespace) list ≡ some l) where
@@ -192,16 +215,25 @@ module _ (by : Translation) (s : State) (h : List Event) (a : Matched s h) (o : 
         let g : idsIn Group (processAt s i) ≡ heldOf Group h c .three = ap (λ (r : Held). r .three) (caller-ids s h a c i e Group) in
         rw (same-number m c i (caller-is s h a c i e), listed, g)
 
-    grouped-next : AllSmall list → Next h (grouped c list) (putProcess s i (withList (processAt s i) (groupList l)))
+    group-count : (m : ℕ) → cond (eqb m i) (groupList l .count) (length (heldOf Group h (suc m) .more))
+        ≡ length (cond (eqb (suc m) c) (record { three = heldOf Group h c .three; more = map (λ (x : ℕ). orNoId (standsFor Group h (placeOf h c) x)) list }) (heldOf Group h (suc m)) .more)
+    unfolding groupList
+    group-count m =
+        rw (same-number m c i (caller-is s h a c i e), groups-are (standsFor Group h (placeOf h c)) list l all-stand)
+        (sym (cond-ap (λ (r : Held). length (r .more)) (eqb m i) _ (heldOf Group h (suc m))))
+
+    grouped-next : AllSmall list → length list ≤ 16 → Next h (grouped c list) (putProcess s i (withList (processAt s i) (groupList l)))
     unfolding isProcess isNamespace placeOf parentOf levelOf mapOf liftOf heldOf withList
-    grouped-next b = record {
-      agree = stores-process s _ _ _ _ _ _ _ _ a i (withList (processAt s i) (groupList l)) (process-in-range s i (named s c i e .1)) _ _ _
+    grouped-next f few = record {
+      agree = stores-process s _ _ _ _ _ _ _ a i (withList (processAt s i) (groupList l)) (process-in-range s i (named s c i e .1)) _ _ _
           (λ m. picked-same (λ (r : ℕ). isProcess h (suc r)) m i _ (a .process-live i))
           (λ m. picked-same (λ (r : ℕ). placeOf h (suc r)) m i _ (a .process-place i))
-          groups-after;
-      allowed = record { caller = caller-live s h a c i e; each = groups-stand h (placeOf h c) list l b all-stand };
+          groups-after
+          group-count;
+      beside = keeps-lifted s (λ (k : Kind). liftOf k h) _ _ b;
+      allowed = record { caller = caller-live s h a c i e; few = few; each = groups-stand h (placeOf h c) list l f all-stand };
     }
 
   pub set-groups-next : (c : ℕ) → AllSmall list → After h (SetGroups c) text list (setGroupsOf by s c list)
-  set-groups-next c b =
-      set-groups-case by s (After h (SetGroups c) text list) (λ e i. nothing-happened s h a) c list (λ i l e f. grouped-next c i e l f b)
+  set-groups-next c f =
+      set-groups-case by s (After h (SetGroups c) text list) (λ e i. nothing-happened s h a b) c list (λ i l e w g. grouped-next c i e l g f (ltb-false 16 (length list) w))

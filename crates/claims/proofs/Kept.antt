@@ -1,27 +1,20 @@
 -- What an allowed event keeps: processes, namespaces, their parents, and every translation there was. Assumes nothing.
 use Prim.Native.Nat.{ℕ}
 use mathlib.Core.Path.{_≡_, refl, sym, ap, _∙_, subst}
-use mathlib.Core.Bool.{Bool, true, _&&_, true≢false}
+use mathlib.Core.Bool.{Bool, true, _&&_}
 use mathlib.Core.List.{List, _∷_}
 use mathlib.Core.Option.{none}
 use native.Mathlib.Nat.{not-suc-le-zero}
 use lib.Dec.{eqb}
 use borrow.Author.Tests.{ne-eqb, eqb-true}
 use Rattle.records.specs.declared.Kind.{Kind}
-use Rattle.records.specs.declared.Kind.the-variants.{User, Group}
 use Rattle.prelude.proofs.Tests.{by-test, cond-elim, and-left, and-right}
 use Rattle.claims.specs.Events.{Event, other, forked, cloned, unshared, joined, mapped, changed, grouped}
 use Rattle.claims.specs.Words.{isProcess, isNamespace, placeOf, parentOf, mapOf, linesOf, sameKind}
 use Rattle.claims.specs.Translation.{Pairs, top, through, Under, here, below}
 use Rattle.claims.specs.TopLevel.{IsUnder, OutOf}
-use Rattle.claims.proofs.Sound.{differ}
+use Rattle.claims.proofs.Sound.{same-kind, differ}
 use Rattle.claims.proofs.Allowed.{Allowed, SoundAt}
-
-pub same-kind : (k j : Kind) → sameKind k j ≡ true → k ≡ j
-same-kind User User e = refl
-same-kind User Group e = absurd (true≢false (sym e))
-same-kind Group User e = absurd (true≢false (sym e))
-same-kind Group Group e = refl
 
 -- ---- along parents
 pub under-trans : (up : ℕ → ℕ) (a b n : ℕ) → Under up a b → Under up b n → Under up a n

@@ -6,7 +6,7 @@ pub mod Kept
 pub mod Stays
 pub mod Carried
 pub mod Stores
-pub mod Matching
+pub mod Beside
 pub mod Agree
 pub mod Lifting
 pub mod Translating
@@ -16,8 +16,10 @@ pub mod FileSteps
 pub mod IdSteps
 pub mod Start
 pub mod Theorem
-pub mod Same
+pub mod AsDocument
 pub mod Bounds
+pub mod Exported
+pub mod Executes
 pub mod Refusals
 pub mod Scenarios
 pub mod Examples

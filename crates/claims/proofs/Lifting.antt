@@ -23,11 +23,10 @@ use Rattle.tables.specs.Tables.{noLift, fixedLift}
 use Rattle.prelude.proofs.Tests.{by-test, and-left, and-right}
 use Rattle.claims.specs.Words.{sameKind, orNone}
 use Rattle.claims.specs.Translation.{Pairs, Out, top, through}
-use Rattle.claims.proofs.Matching.{liftedBy}
-use Rattle.claims.proofs.Sound.{map-lines-good}
+use Rattle.claims.specs.LiftedMaps.{liftedBy}
+use Rattle.claims.proofs.Sound.{same-kind, map-lines-good}
 use Rattle.claims.proofs.Pairs.{out-pairs, pairs-out, parent-small}
 use Rattle.claims.proofs.Levels.{by-translated}
-use Rattle.claims.proofs.Kept.{same-kind}
 
 -- ---- a map with lines ls and parent p, whose lifted map is a, is lifted over that one, or stands as it is
 pub data Step (p : ℕ) (ls : List Line) (a m : Lifted) : Type 0 where

@@ -70,7 +70,7 @@ module _ (by : Translation) (s : State) (buffer : List ℕ) where
       found-case Read (processNamed s c) (refuses s buffer 3 is-3) (λ r e.
       found-case Read (processNamed s p) (refuses s buffer 3 is-3) (λ q f. read-text _))
   call-refuses (SetIds k c i) text list = set-ids-case by s Stored (refuses s buffer) k c i (λ j x y z e fx fy fz. answers s _ buffer _ _ refl)
-  call-refuses (SetGroups c) text list = set-groups-case by s Stored (refuses s buffer) c list (λ i l e f. answers s _ buffer _ _ refl)
+  call-refuses (SetGroups c) text list = set-groups-case by s Stored (refuses s buffer) c list (λ i l e w f. answers s _ buffer _ _ refl)
   call-refuses (Capable c n number) text list =
       found-case Asked (processNamed s c) (refuses s buffer 3 is-3) (λ i e.
       found-case Asked (namespaceNamed s n) (refuses s buffer 3 is-3) (λ m f.

@@ -20,7 +20,7 @@ use Rattle.mapping.specs.Calls.{readText, viewOf, shownLine, mapTextOf, readMap
 use Rattle.credentials.specs.Calls.{withUsers, withGroups, mayTake, setIdsOf, setGroupsOf, capableReply, translateReply}
 use Rattle.calls.specs.Calls.{answerBy}
 use Rattle.claims.specs.Translation.{byLevels, outBy, backBy}
-use Rattle.claims.specs.History.{runFrom, answersFrom}
+use Rattle.claims.specs.History.{runFrom, historyFrom}
 use Rattle.claims.specs.Scenarios.{Scenario, scenarios, found, expected, AllOf, AllComeOut}
 
 -- where all results are as expected, each scenario comes out
@@ -39,5 +39,5 @@ unfolding fitsAt putAt holds out reachOf fitsOf boundedOf apartSide apartOf allA
     isNear singleLine mayMap allCovered withMap mappedTables writeLinesTo writeMapTo writeMapOf
     sameBytes isWord withDeny settingIn writeSetgroupsTo writeSetgroupsOf readText viewOf shownLine mapTextOf readMapOf
     withUsers withGroups mayTake setIdsOf setGroupsOf capableReply translateReply
-    answerBy runFrom answersFrom
+    answerBy runFrom historyFrom
 scenarios-come-out = each scenarios refl

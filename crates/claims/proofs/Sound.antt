@@ -1,6 +1,6 @@
 -- What is sound of processes, namespaces and maps, whatever gives them, and that each kind of event keeps it. Assumes nothing.
 use Prim.Native.Nat.{ℕ, suc, _≤_, _<_}
-use mathlib.Core.Path.{_≡_, refl, sym, ap, _∙_}
+use mathlib.Core.Path.{_≡_, refl, sym, ap, _∙_, subst}
 use mathlib.Core.Bool.{Bool, true, false, cond, _&&_, true≢false}
 use mathlib.Core.List.{List}
 use mathlib.Core.Option.{Option, none, some}
@@ -8,14 +8,22 @@ use native.Mathlib.Nat.{not-suc-le-zero}
 use native.Mathlib.Omega.{arith}
 use lib.Dec.{eqb, leb}
 use lib.ListN.{length}
-use borrow.Author.Tests.{ne-eqb, eqb-true}
+use borrow.Author.Tests.{ne-eqb, eqb-true, leb-true}
 use Rattle.idmap.specs.declared.Line.{Line}
 use Rattle.idmap.specs.Good.{maxLines, goodOf}
+use Rattle.idmap.specs.Cover.{HasLine}
 use Rattle.idmap.specs.Text.{checked, mapLines, textLines}
 use Rattle.records.specs.declared.Kind.{Kind}
-use Rattle.prelude.proofs.Tests.{by-test, cond-elim, and-right}
+use Rattle.records.specs.declared.Kind.the-variants.{User, Group}
+use Rattle.prelude.proofs.Tests.{by-test, cond-elim, and-right, both}
 use Rattle.claims.specs.Words.{sameKind, orNone}
 use Rattle.claims.specs.Translation.{Pairs}
+use Rattle.claims.specs.TopLevel.{OnParentSide}
+
+-- a written map has one line at least, and no more than there is room for
+abbrev pub Counted : Option (List Line) → Type 0
+Counted none = Unit {0}
+Counted (some ls) = (1 ≤ length ls) × (length ls ≤ maxLines)
 
 -- isP, isN: which numbers are processes and namespaces; place, up, level: a process's namespace, a namespace's parent and level
 pub record Sound (isP isN : ℕ → Bool) (place up level : ℕ → ℕ) (maps : Kind → ℕ → Option (List Line)) : Type 0 where
@@ -27,24 +35,44 @@ pub record Sound (isP isN : ℕ → Bool) (place up level : ℕ → ℕ) (maps :
   pub levelled : (m : ℕ) → isN m ≡ true → (m ≡ 0 → ⊥) → level m ≡ suc (level (up m))
   pub shallow : (m : ℕ) → level m ≤ 32
   pub good : (k : Kind) (m : ℕ) → goodOf (orNone (maps k m)) ≡ true
+  pub counted : (k : Kind) (m : ℕ) → Counted (maps k m)
+  pub covered : (k : Kind) (m z : ℕ) → OnParentSide (orNone (maps k m)) z → HasLine (orNone (maps k (up m))) z
   pub made : (k : Kind) (m : ℕ) → isN m ≡ false → maps k m ≡ none
+  pub root-written : (k : Kind) → maps k 0 ≡ none → ⊥
+
+pub same-kind : (k j : Kind) → sameKind k j ≡ true → k ≡ j
+same-kind User User e = refl
+same-kind User Group e = absurd (true≢false (sym e))
+same-kind Group User e = absurd (true≢false (sym e))
+same-kind Group Group e = refl
 
 -- a number that is one is not a number that is none
 pub differ : (is : ℕ → Bool) (m n : ℕ) → is m ≡ true → is n ≡ false → m ≡ n → ⊥
 differ is m n t f e = true≢false (sym t ∙ ap is e ∙ f)
 
--- the lines that a map's text has are good
-checked-good : (ls : Option (List Line)) → goodOf (orNone (checked ls)) ≡ true
+-- the lines that a map's text has are some, not too many, and good
+checked-lines : (ls : Option (List Line)) → (goodOf (orNone (checked ls)) ≡ true) × Counted (checked ls)
 unfolding checked goodOf
-checked-good none = refl
-checked-good (some ls) =
+checked-lines none = (refl, tt)
+checked-lines (some ls) =
     by-test (leb 1 (length ls) && (leb (length ls) maxLines && goodOf ls))
-    (λ t. rw t (and-right (leb (length ls) maxLines) (goodOf ls) (and-right (leb 1 (length ls)) (leb (length ls) maxLines && goodOf ls) t)))
-    (λ t. rw t)
+    (λ t.
+    let f = both (leb 1 (length ls)) (leb (length ls) maxLines && goodOf ls) t in
+    let g = both (leb (length ls) maxLines) (goodOf ls) (f .1) in
+    rw t (g .1, (leb-true 1 (length ls) (f .0), leb-true (length ls) maxLines (g .0))))
+    (λ t. rw t (refl, tt))
 
 pub map-lines-good : (text : List ℕ) → goodOf (orNone (mapLines text)) ≡ true
 unfolding mapLines
-map-lines-good text = checked-good (textLines text)
+map-lines-good text = checked-lines (textLines text) .0
+
+pub map-lines-counted : (text : List ℕ) → Counted (mapLines text)
+unfolding mapLines
+map-lines-counted text = checked-lines (textLines text) .1
+
+-- no line holds an ID where there is none
+pub no-line : (o : Option (List Line)) (z : ℕ) → o ≡ none → HasLine (orNone o) z → ⊥
+no-line o z e l = not-suc-le-zero (rw e at (l .1))
 
 module _ (isP isN : ℕ → Bool) (place up level : ℕ → ℕ) (maps : Kind → ℕ → Option (List Line)) (s : Sound isP isN place up level maps) where
   -- a namespace that has a line is one, so its level is above its parent's
@@ -65,7 +93,10 @@ module _ (isP isN : ℕ → Bool) (place up level : ℕ → ℕ) (maps : Kind �
     levelled = s .levelled;
     shallow = s .shallow;
     good = s .good;
+    counted = s .counted;
+    covered = s .covered;
     made = s .made;
+    root-written = s .root-written;
   }
 
   -- process q begins in namespace n
@@ -79,7 +110,10 @@ module _ (isP isN : ℕ → Bool) (place up level : ℕ → ℕ) (maps : Kind �
     levelled = s .levelled;
     shallow = s .shallow;
     good = s .good;
+    counted = s .counted;
+    covered = s .covered;
     made = s .made;
+    root-written = s .root-written;
   }
 
   -- namespace n is made, under namespace m
@@ -109,22 +143,55 @@ module _ (isP isN : ℕ → Bool) (place up level : ℕ → ℕ) (maps : Kind �
           (λ r. let b = before i r t in rw (r, other-than (up i) (s .parented i b)) (s .levelled i b h));
       shallow = λ i. cond-elim (λ (l : ℕ). l ≤ 32) (eqb i n) (omega arith) (s .shallow i);
       good = s .good;
+      counted = s .counted;
+      covered = λ k i z o.
+          by-test (eqb i n)
+          (λ r. absurd (no-pairs k i (o .0) z (ap isN (eqb-true i n r) ∙ new) (o .1)))
+          (λ r. rw r (s .covered k i z o));
       made = λ k i f. by-test (isN i) (λ t. absurd (true≢false (sym (kept i t) ∙ f))) (λ t. s .made k i t);
+      root-written = s .root-written;
     }
 
-  -- the map of kind j of namespace n is written
-  pub writes : (j : Kind) (n : ℕ) (text : List ℕ) → isN n ≡ true → Sound isP isN place up level (λ (k : Kind) (m : ℕ). cond (sameKind k j && eqb m n) (mapLines text) (maps k m))
-  writes j n text t = record {
-    no-zero = s .no-zero;
-    root = s .root;
-    root-level = s .root-level;
-    placed = s .placed;
-    parented = s .parented;
-    levelled = s .levelled;
-    shallow = s .shallow;
-    good = λ k m. cond-elim (λ (r : Option (List Line)). goodOf (orNone r) ≡ true) (sameKind k j && eqb m n) (map-lines-good text) (s .good k m);
-    made = λ k m f.
+  -- the map of kind j of namespace n is written, which was not, over lines that have each ID of its parent side
+  module _ (j : Kind) (n : ℕ) (text : List ℕ) (t : isN n ≡ true) (u : maps j n ≡ none) (c : (z : ℕ) → OnParentSide (orNone (mapLines text)) z → HasLine (orNone (maps j (up n))) z) where
+    abbrev maps′ : Kind → ℕ → Option (List Line)
+    maps′ k m = cond (sameKind k j && eqb m n) (mapLines text) (maps k m)
+
+    -- lines that were there are there still
+    line-kept : (k : Kind) (m z : ℕ) → HasLine (orNone (maps k m)) z → HasLine (orNone (maps′ k m)) z
+    line-kept k m z l =
         by-test (sameKind k j && eqb m n)
-        (λ r. absurd (differ isN n m t f (sym (eqb-true m n (and-right (sameKind k j) (eqb m n) r)))))
-        (λ r. rw r (s .made k m f));
-  }
+        (λ r.
+        let f = both (sameKind k j) (eqb m n) r in
+        absurd (no-line (maps k m) z ((λ i. maps (same-kind k j (f .0) i) (eqb-true m n (f .1) i)) ∙ u) l))
+        (λ r. rw r l)
+
+    pub writes : Sound isP isN place up level maps′
+    writes = record {
+      no-zero = s .no-zero;
+      root = s .root;
+      root-level = s .root-level;
+      placed = s .placed;
+      parented = s .parented;
+      levelled = s .levelled;
+      shallow = s .shallow;
+      good = λ k m. cond-elim (λ (r : Option (List Line)). goodOf (orNone r) ≡ true) (sameKind k j && eqb m n) (map-lines-good text) (s .good k m);
+      counted = λ k m. cond-elim Counted (sameKind k j && eqb m n) (map-lines-counted text) (s .counted k m);
+      covered = λ k m z o.
+          by-test (sameKind k j && eqb m n)
+          (λ r.
+          let f = both (sameKind k j) (eqb m n) r in
+          let l = c z (rw r at o) in
+          line-kept k (up m) z (subst (λ (i : Kind × ℕ). HasLine (orNone (maps (i .0) (up (i .1)))) z) (λ i. (sym (same-kind k j (f .0)) i, sym (eqb-true m n (f .1)) i)) l))
+          (λ r. line-kept k (up m) z (s .covered k m z (rw r at o)));
+      made = λ k m f.
+          by-test (sameKind k j && eqb m n)
+          (λ r. absurd (differ isN n m t f (sym (eqb-true m n (and-right (sameKind k j) (eqb m n) r)))))
+          (λ r. rw r (s .made k m f));
+      root-written = λ k e.
+          by-test (sameKind k j && eqb 0 n)
+          (λ r.
+          let f = both (sameKind k j) (eqb 0 n) r in
+          s .root-written k ((λ i. maps (same-kind k j (f .0) i) (eqb-true 0 n (f .1) i)) ∙ u))
+          (λ r. s .root-written k (rw r at e));
+    }

@@ -10,13 +10,15 @@ use lib.ListN.{length, getD, replicate, length-replicate}
 use Rattle.records.specs.declared.Kind.{Kind}
 use Rattle.records.specs.declared.Kind.the-variants.{User, Group}
 use Rattle.records.specs.declared.Process.{Process}
+use Rattle.records.specs.declared.MapState.the-variants.{Unwritten}
 use Rattle.records.specs.declared.Namespace.{Namespace}
 use Rattle.records.specs.Records.{freeProcess, freeNamespace, mapIn}
 use Rattle.tables.specs.Tables.{State, processAt, namespaceAt, liftedMaps, noLift, fixedLift, liftedAt, putProcess, firstProcess, rootNamespace, firstLiftedMaps, initialTables, allZero}
 use Rattle.prelude.proofs.Tests.{by-test}
 use Rattle.claims.specs.Words.{isProcess, isNamespace, placeOf, parentOf, levelOf, mapOf, heldOf}
-use Rattle.claims.specs.Agreement.{heldIn, writtenIn}
-use Rattle.claims.proofs.Matching.{Matches, Matched, liftOf}
+use Rattle.claims.specs.Agreement.{heldIn, writtenIn, stateFor, Agrees, Agreed}
+use Rattle.claims.specs.LiftedMaps.{liftOf}
+use Rattle.claims.proofs.Beside.{Beside}
 use Rattle.claims.proofs.Stores.{stored-or-kept, next-number}
 use Rattle.claims.proofs.Agree.{stores-process, stores-namespace}
 
@@ -36,36 +38,25 @@ free-map : (k : Kind) → writtenIn (mapIn k freeNamespace) ≡ none
 free-map User = refl
 free-map Group = refl
 
--- the lifted maps: the initial namespace's only
-first-places : (k : Kind) → length (liftedMaps k empty) ≡ 64
-unfolding firstLiftedMaps
-first-places User = refl
-first-places Group = refl
-
-first-lift : (i : ℕ) → getD firstLiftedMaps i noLift ≡ cond (eqb i 0) fixedLift noLift
-unfolding firstLiftedMaps
-first-lift i = stored-or-kept (replicate 64 noLift) 0 fixedLift noLift i (rw (length-replicate) (omega arith)) ∙ rw (all-same noLift 64 i)
-
-first-lifts : (k : Kind) (i : ℕ) → liftedAt empty k i ≡ liftOf k [] i
-unfolding liftedAt liftOf
-first-lifts User i = first-lift i
-first-lifts Group i = first-lift i
+free-state : (k : Kind) → mapIn k freeNamespace .state ≡ Unwritten
+free-state User = refl
+free-state Group = refl
 
 -- tables with no process and no namespace
-empty-agrees : Matches empty (λ (i : ℕ). false) (λ (i : ℕ). false) (λ (i : ℕ). 0) (λ (i : ℕ). 0) (λ (i : ℕ). 0) (λ (k : Kind) (i : ℕ). none) (λ (k : Kind). liftOf k []) (λ (k : Kind) (i : ℕ). record { three = allZero; more = [] })
+empty-agrees : Agrees empty (λ (i : ℕ). false) (λ (i : ℕ). false) (λ (i : ℕ). 0) (λ (i : ℕ). 0) (λ (i : ℕ). 0) (λ (k : Kind) (i : ℕ). none) (λ (k : Kind) (i : ℕ). record { three = allZero; more = [] })
 unfolding processAt namespaceAt
 empty-agrees = record {
   process-places = length-replicate 128 freeProcess;
   namespace-places = length-replicate 64 freeNamespace;
-  lifted-places = first-places;
   process-live = λ i. ap (λ (p : Process). p .live) (all-same freeProcess 128 i);
   process-place = λ i. ap (λ (p : Process). p .namespace) (all-same freeProcess 128 i);
   process-ids = λ k i. ap (heldIn k) (all-same freeProcess 128 i) ∙ free-ids k;
+  process-count = λ i. ap (λ (p : Process). p .supplementary .count) (all-same freeProcess 128 i);
   namespace-live = λ i. ap (λ (n : Namespace). n .live) (all-same freeNamespace 64 i);
   namespace-parent = λ i. ap (λ (n : Namespace). n .parent) (all-same freeNamespace 64 i);
   namespace-level = λ i. ap (λ (n : Namespace). n .level) (all-same freeNamespace 64 i);
   namespace-map = λ k i. ap (λ (n : Namespace). writtenIn (mapIn k n)) (all-same freeNamespace 64 i) ∙ free-map k;
-  namespace-lifted = first-lifts;
+  namespace-state = λ k i. ap (λ (n : Namespace). mapIn k n .state) (all-same freeNamespace 64 i) ∙ free-state k;
 }
 
 first-ids : (k : Kind) → heldIn k firstProcess ≡ record { three = allZero; more = [] }
@@ -77,20 +68,45 @@ unfolding mapOf
 root-map User i = refl
 root-map Group i = refl
 
+root-state : (k : Kind) (i : ℕ) → cond (eqb i 0) (mapIn k rootNamespace .state) Unwritten ≡ stateFor (mapOf k [] i)
+unfolding mapOf
+root-state User i = by-test (eqb i 0) (λ t. rw t) (λ t. rw t)
+root-state Group i = by-test (eqb i 0) (λ t. rw t) (λ t. rw t)
+
 is-it : (t : Bool) → cond t true false ≡ t
 is-it true = refl
 is-it false = refl
 
-pub start-agrees : Matched initialTables []
+pub start-agrees : Agreed initialTables []
 unfolding initialTables isProcess isNamespace placeOf parentOf levelOf heldOf
 start-agrees =
-    stores-namespace (putProcess empty 0 firstProcess) _ _ _ _ _ _ _ _
-    (stores-process empty _ _ _ _ _ _ _ _ empty-agrees 0 firstProcess (rw (length-replicate) (omega arith)) (isProcess []) (placeOf []) (λ (k : Kind). heldOf k [])
+    stores-namespace (putProcess empty 0 firstProcess) _ _ _ _ _ _ _
+    (stores-process empty _ _ _ _ _ _ _ empty-agrees 0 firstProcess (rw (length-replicate) (omega arith)) (isProcess []) (placeOf []) (λ (k : Kind). heldOf k [])
     (λ i. is-it (eqb i 0) ∙ sym (next-number i 0))
     (λ i. by-test (eqb i 0) (λ t. rw t) (λ t. rw t))
-    (λ k i. by-test (eqb i 0) (λ t. rw t (first-ids k)) (λ t. rw t)))
+    (λ k i. by-test (eqb i 0) (λ t. rw t (first-ids k)) (λ t. rw t))
+    (λ i. by-test (eqb i 0) (λ t. rw t) (λ t. rw t)))
     0 rootNamespace (rw (length-replicate) (omega arith)) _ _ _ _
     (λ i. is-it (eqb i 0))
     (λ i. by-test (eqb i 0) (λ t. rw t) (λ t. rw t))
     (λ i. by-test (eqb i 0) (λ t. rw t) (λ t. rw t))
     root-map
+    root-state
+
+-- ---- the lifted maps: the initial namespace's only
+first-places : (k : Kind) → length (liftedMaps k initialTables) ≡ 64
+unfolding initialTables firstLiftedMaps
+first-places User = refl
+first-places Group = refl
+
+first-lift : (i : ℕ) → getD firstLiftedMaps i noLift ≡ cond (eqb i 0) fixedLift noLift
+unfolding firstLiftedMaps
+first-lift i = stored-or-kept (replicate 64 noLift) 0 fixedLift noLift i (rw (length-replicate) (omega arith)) ∙ rw (all-same noLift 64 i)
+
+first-lifts : (k : Kind) (i : ℕ) → liftedAt initialTables k i ≡ liftOf k [] i
+unfolding initialTables liftedAt liftOf
+first-lifts User i = first-lift i
+first-lifts Group i = first-lift i
+
+pub start-beside : Beside initialTables []
+start-beside = record { places = first-places; lifted = first-lifts }

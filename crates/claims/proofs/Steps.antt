@@ -7,14 +7,16 @@ use mathlib.Core.Option.{none}
 use native.Mathlib.Numerals.{add-one}
 use native.Mathlib.Omega.{arith}
 use lib.Dec.{eqb, leb}
+use lib.ListN.{length}
 use borrow.Author.Tests.{eqb-true, eqb-false, leb-false}
 use Rattle.records.specs.declared.Kind.{Kind}
 use Rattle.records.specs.declared.Kind.the-variants.{User, Group}
 use Rattle.records.specs.declared.Process.{Process}
 use Rattle.records.specs.declared.Namespace.{Namespace}
+use Rattle.records.specs.declared.MapState.the-variants.{Unwritten}
 use Rattle.records.specs.Records.{mapIn}
 use Rattle.tables.specs.declared.find.Found.the-variants.{At}
-use Rattle.tables.specs.Tables.{State, processAt, namespaceAt, putProcess}
+use Rattle.tables.specs.Tables.{State, processAt, namespaceAt, putProcess, putNamespace}
 use Rattle.tables.specs.Find.{processNamed, namespaceNamed, freeProcessPlace, freeNamespacePlace}
 use Rattle.tables.specs.Reply.{Outcome}
 use Rattle.hierarchy.specs.Walks.{Translation, heightOf, ownedBy, holdsIn, capableIn}
@@ -24,40 +26,50 @@ use Rattle.calls.specs.declared.Call.{Call}
 use Rattle.calls.specs.declared.Call.the-variants.{Fork, Clone, Unshare, Setns}
 use Rattle.prelude.proofs.Tests.{by-test, and-left}
 use Rattle.claims.specs.Events.{Event, other, forked, cloned, unshared, joined}
-use Rattle.claims.specs.Words.{isProcess, isNamespace, placeOf, parentOf, levelOf, mapOf, heldOf}
+use Rattle.claims.specs.Words.{Held, isProcess, isNamespace, placeOf, parentOf, levelOf, mapOf, heldOf}
 use Rattle.claims.specs.Translation.{here}
 use Rattle.claims.specs.Translation.{below as under-parent}
 use Rattle.claims.specs.TopLevel.{IsUnder}
 use Rattle.claims.specs.History.{happenedBy}
-use Rattle.claims.specs.Agreement.{heldIn, writtenIn}
-use Rattle.claims.proofs.Matching.{Matches, Matched, liftOf}
+use Rattle.claims.specs.Agreement.{heldIn, writtenIn, stateFor, Agrees, Agreed}
+use Rattle.claims.specs.LiftedMaps.{liftOf}
+use Rattle.claims.proofs.Beside.{LiftedAs, Beside, keeps-lifted, clears-lifted}
 use Rattle.claims.proofs.Allowed.{Allowed, SoundAt, NewNamespace}
-use Rattle.claims.proofs.Stores.{named, space-named, free-process, free-namespace, process-in-range, next-number, same-number}
+use Rattle.claims.proofs.Stores.{cond-ap, named, space-named, free-process, free-namespace, process-in-range, next-number, same-number}
 use Rattle.claims.proofs.Cases.{fork-case, clone-case, unshare-case, setns-case}
-use Rattle.claims.proofs.Agree.{picked-same, stores-process, stores-namespace, caller-is, caller-live, caller-place, caller-ids}
+use Rattle.claims.proofs.Agree.{picked-same, stores-process, stores-namespace, keeps-tables, caller-is, caller-live, caller-place, caller-ids, caller-count}
+use Rattle.claims.proofs.Translating.{LiftsAt}
 
 -- the tables after an event agree with the history that it lengthens, and it was allowed
 pub record Next (h : List Event) (e : Event) (t : State) : Type 0 where
-  pub agree : Matched t (e ∷ h)
+  pub agree : Agreed t (e ∷ h)
+  pub beside : Beside t (e ∷ h)
   pub allowed : Allowed h e
 
 -- nothing happened
-pub nothing-happened : (s : State) (h : List Event) → Matched s h → Next h other s
+pub nothing-happened : (s : State) (h : List Event) → Agreed s h → Beside s h → Next h other s
 unfolding isProcess isNamespace placeOf parentOf levelOf mapOf liftOf heldOf
-nothing-happened s h a = record { agree = a; allowed = tt }
+nothing-happened s h a b = record { agree = a; beside = b; allowed = tt }
 
 abbrev pub After : List Event → Call → List ℕ → List ℕ → Outcome → Type 0
 After h c text list o = Next h (happenedBy c text list (o .reply)) (o .tables)
 
-module _ (by : Translation) (s : State) (h : List Event) (a : Matched s h) (d : SoundAt h) (text list : List ℕ) where
+module _ (by : Translation) (s : State) (h : List Event) (a : Agreed s h) (b : Beside s h) (d : SoundAt h) (l : LiftsAt h) (text list : List ℕ) where
+  -- a child has as many groups as the caller
+  count-after : (j q c i : ℕ) → processNamed s c ≡ At i
+      → cond (eqb j q) (processAt s i .supplementary .count) (length (heldOf Group h (suc j) .more)) ≡ length (cond (eqb (suc j) (q + 1)) (heldOf Group h c) (heldOf Group h (suc j)) .more)
+  count-after j q c i e = rw (next-number j q, caller-count s h a c i e) (sym (cond-ap (λ (m : Held). length (m .more)) (eqb j q) (heldOf Group h c) (heldOf Group h (suc j))))
+
   -- ---- fork
   forked-next : (c i q : ℕ) → processNamed s c ≡ At i → freeProcessPlace s ≡ At q → Next h (forked c (q + 1)) (putProcess s q (processAt s i))
   unfolding isProcess isNamespace placeOf parentOf levelOf mapOf liftOf heldOf
   forked-next c i q e f = record {
-    agree = stores-process s _ _ _ _ _ _ _ _ a q (processAt s i) (free-process s q f .0) _ _ _
+    agree = stores-process s _ _ _ _ _ _ _ a q (processAt s i) (free-process s q f .0) _ _ _
         (λ j. rw (next-number j q, named s c i e .1))
         (λ j. rw (next-number j q, caller-place s h a c i e))
-        (λ k j. rw (next-number j q, caller-ids s h a c i e k));
+        (λ k j. rw (next-number j q, caller-ids s h a c i e k))
+        (λ j. count-after j q c i e);
+    beside = keeps-lifted s (λ (k : Kind). liftOf k h) _ _ b;
     allowed = record {
       caller = caller-live s h a c i e;
       unused = let z : q + 1 ≡ suc q = omega arith in rw z (sym (a .process-live q) ∙ free-process s q f .1);
@@ -66,7 +78,7 @@ module _ (by : Translation) (s : State) (h : List Event) (a : Matched s h) (d : 
   }
 
   pub fork-next : (c : ℕ) → After h (Fork c) text list (forkOf s c)
-  fork-next c = fork-case by s (After h (Fork c) text list) (λ e i. nothing-happened s h a) c (λ i q e f. forked-next c i q e f)
+  fork-next c = fork-case by s (After h (Fork c) text list) (λ e i. nothing-happened s h a b) c (λ i q e f. forked-next c i q e f)
 
   -- ---- a new namespace
   fresh-map : (k : Kind) (p : Process) (n : Namespace) → writtenIn (mapIn k (below p n)) ≡ none
@@ -74,12 +86,23 @@ module _ (by : Translation) (s : State) (h : List Event) (a : Matched s h) (d : 
   fresh-map User p n = refl
   fresh-map Group p n = refl
 
+  fresh-state : (k : Kind) (p : Process) (n : Namespace) → mapIn k (below p n) .state ≡ Unwritten
+  unfolding below
+  fresh-state User p n = refl
+  fresh-state Group p n = refl
+
   entered-ids : (k : Kind) (p : Process) (n : ℕ) → heldIn k (entered p n) ≡ heldIn k p
   unfolding entered
   entered-ids User p n = refl
   entered-ids Group p n = refl
 
   module _ (c p n : ℕ) (e : processNamed s c ≡ At p) (g : freeNamespacePlace s ≡ At n) (r : leb 32 (namespaceAt s (processAt s p .namespace) .level) ≡ false) where
+    abbrev own : Namespace
+    own = namespaceAt s (processAt s p .namespace)
+
+    abbrev child : Namespace
+    child = below (processAt s p) own
+
     unused : isNamespace h n ≡ false
     unused = sym (a .namespace-live n) ∙ free-namespace s n g .1
 
@@ -94,24 +117,37 @@ module _ (by : Translation) (s : State) (h : List Event) (a : Matched s h) (d : 
     }
 
     -- the namespace is stored, and every process is as it was
-    with-child : Matches (withChild s p n) (isProcess h) (λ (i : ℕ). cond (eqb i n) true (isNamespace h i)) (placeOf h)
+    with-child : Agrees (withChild s p n) (isProcess h) (λ (i : ℕ). cond (eqb i n) true (isNamespace h i)) (placeOf h)
         (λ (i : ℕ). cond (eqb i n) (placeOf h c) (parentOf h i)) (λ (i : ℕ). cond (eqb i n) (suc (levelOf h (placeOf h c))) (levelOf h i))
-        (λ (k : Kind). mapOf k h) (λ (k : Kind). liftOf k h) (λ (k : Kind). heldOf k h)
+        (λ (k : Kind). mapOf k h) (λ (k : Kind). heldOf k h)
     unfolding below
     with-child =
-        stores-namespace s _ _ _ _ _ _ _ _ a n (below (processAt s p) (namespaceAt s (processAt s p .namespace))) (free-namespace s n g .0) _ _ _ _
+        keeps-tables (putNamespace s n child) _ _ _ _ _ _ _
+        (stores-namespace s _ _ _ _ _ _ _ a n child (free-namespace s n g .0) _ _ _ _
         (λ i. refl)
         (λ i. rw (caller-place s h a c p e))
         (λ i. rw (level-above, add-one))
-        (λ k i. picked-same (mapOf k h) i n (writtenIn (mapIn k (below (processAt s p) (namespaceAt s (processAt s p .namespace))))) (fresh-map k (processAt s p) (namespaceAt s (processAt s p .namespace)) ∙ sym (d .made k n unused)))
+        (λ k i. picked-same (mapOf k h) i n (writtenIn (mapIn k child)) (fresh-map k (processAt s p) own ∙ sym (d .made k n unused)))
+        (λ k i. picked-same (λ (m : ℕ). stateFor (mapOf k h m)) i n (mapIn k child .state) (fresh-state k (processAt s p) own ∙ ap stateFor (sym (d .made k n unused)))))
+        _ _
+
+    -- it has no lifted map, and every other one is as it was
+    child-beside : LiftedAs (withChild s p n) (λ (k : Kind). liftOf k h)
+    child-beside =
+        clears-lifted (putNamespace s n child) (λ (k : Kind). liftOf k h) n
+        (let r = free-namespace s n g .0 in let q = a .namespace-places in omega arith)
+        (λ k. l .unwritten k n (d .made k n unused))
+        (keeps-lifted s (λ (k : Kind). liftOf k h) _ _ b)
 
     cloned-next : (q : ℕ) → freeProcessPlace s ≡ At q → Next h (cloned c (q + 1) n) (putProcess (withChild s p n) q (entered (processAt s p) n))
     unfolding isProcess isNamespace placeOf parentOf levelOf mapOf liftOf heldOf entered
     cloned-next q f = record {
-      agree = stores-process (withChild s p n) _ _ _ _ _ _ _ _ with-child q (entered (processAt s p) n) (free-process s q f .0) _ _ _
+      agree = stores-process (withChild s p n) _ _ _ _ _ _ _ with-child q (entered (processAt s p) n) (free-process s q f .0) _ _ _
           (λ j. rw (next-number j q, named s c p e .1))
           (λ j. rw (next-number j q))
-          (λ k j. rw (next-number j q, entered-ids k (processAt s p) n, caller-ids s h a c p e k));
+          (λ k j. rw (next-number j q, entered-ids k (processAt s p) n, caller-ids s h a c p e k))
+          (λ j. count-after j q c p e);
+      beside = keeps-lifted (withChild s p n) (λ (k : Kind). liftOf k h) _ _ child-beside;
       allowed = (
         record {
           caller = caller-live s h a c p e;
@@ -125,20 +161,22 @@ module _ (by : Translation) (s : State) (h : List Event) (a : Matched s h) (d : 
     unshared-next : Next h (unshared c n) (putProcess (withChild s p n) p (entered (processAt s p) n))
     unfolding isProcess isNamespace placeOf parentOf levelOf mapOf liftOf heldOf entered
     unshared-next = record {
-      agree = stores-process (withChild s p n) _ _ _ _ _ _ _ _ with-child p (entered (processAt s p) n) (process-in-range s p (named s c p e .1)) _ _ _
+      agree = stores-process (withChild s p n) _ _ _ _ _ _ _ with-child p (entered (processAt s p) n) (process-in-range s p (named s c p e .1)) _ _ _
           (λ j. picked-same (λ (i : ℕ). isProcess h (suc i)) j p (processAt s p .live) (a .process-live p))
           (λ j. rw (same-number j c p (caller-is s h a c p e)))
-          (λ k j. picked-same (λ (i : ℕ). heldOf k h (suc i)) j p (heldIn k (entered (processAt s p) n)) (entered-ids k (processAt s p) n ∙ a .process-ids k p));
+          (λ k j. picked-same (λ (i : ℕ). heldOf k h (suc i)) j p (heldIn k (entered (processAt s p) n)) (entered-ids k (processAt s p) n ∙ a .process-ids k p))
+          (λ j. picked-same (λ (i : ℕ). length (heldOf Group h (suc i) .more)) j p (processAt s p .supplementary .count) (a .process-count p));
+      beside = keeps-lifted (withChild s p n) (λ (k : Kind). liftOf k h) _ _ child-beside;
       allowed = new-namespace;
     }
 
   pub clone-next : (c : ℕ) → After h (Clone c) text list (cloneOf by s c)
   clone-next c =
-      clone-case by s (After h (Clone c) text list) (λ e i. nothing-happened s h a) c (λ p n q (e, g, r) f. cloned-next c p n e g r q f)
+      clone-case by s (After h (Clone c) text list) (λ e i. nothing-happened s h a b) c (λ p n q (e, g, r) f. cloned-next c p n e g r q f)
 
   pub unshare-next : (c : ℕ) → After h (Unshare c) text list (unshareOf by s c)
   unshare-next c =
-      unshare-case by s (After h (Unshare c) text list) (λ e i. nothing-happened s h a) c (λ p n (e, g, r). unshared-next c p n e g r)
+      unshare-case by s (After h (Unshare c) text list) (λ e i. nothing-happened s h a b) c (λ p n (e, g, r). unshared-next c p n e g r)
 
   -- ---- setns: who holds a capability in a namespace is above it
   reaches : (own euid : ℕ) (mine : Bool) (k n : ℕ) → holdsIn s own euid mine k n ≡ true → IsUnder h own n
@@ -160,10 +198,12 @@ module _ (by : Translation) (s : State) (h : List Event) (a : Matched s h) (d : 
   joined-next : (c name p n : ℕ) → processNamed s c ≡ At p → namespaceNamed s name ≡ At n → capableIn s (processAt s p) n sysAdmin ≡ true → Next h (joined c name) (putProcess s p (entered (processAt s p) n))
   unfolding isProcess isNamespace placeOf parentOf levelOf mapOf liftOf heldOf entered capableIn
   joined-next c name p n e f t = record {
-    agree = stores-process s _ _ _ _ _ _ _ _ a p (entered (processAt s p) n) (process-in-range s p (named s c p e .1)) _ _ _
+    agree = stores-process s _ _ _ _ _ _ _ a p (entered (processAt s p) n) (process-in-range s p (named s c p e .1)) _ _ _
         (λ j. picked-same (λ (i : ℕ). isProcess h (suc i)) j p (processAt s p .live) (a .process-live p))
         (λ j. rw (same-number j c p (caller-is s h a c p e), space-named s name n f .0))
-        (λ k j. picked-same (λ (i : ℕ). heldOf k h (suc i)) j p (heldIn k (entered (processAt s p) n)) (entered-ids k (processAt s p) n ∙ a .process-ids k p));
+        (λ k j. picked-same (λ (i : ℕ). heldOf k h (suc i)) j p (heldIn k (entered (processAt s p) n)) (entered-ids k (processAt s p) n ∙ a .process-ids k p))
+        (λ j. picked-same (λ (i : ℕ). length (heldOf Group h (suc i) .more)) j p (processAt s p .supplementary .count) (a .process-count p));
+    beside = keeps-lifted s (λ (k : Kind). liftOf k h) _ _ b;
     allowed = record {
       caller = caller-live s h a c p e;
       target = rw (space-named s name n f .0) (sym (a .namespace-live n) ∙ space-named s name n f .1);
@@ -173,4 +213,4 @@ module _ (by : Translation) (s : State) (h : List Event) (a : Matched s h) (d : 
 
   pub setns-next : (c name : ℕ) → After h (Setns c name) text list (setnsOf s c name)
   setns-next c name =
-      setns-case by s (After h (Setns c name) text list) (λ e i. nothing-happened s h a) c name (λ p n e f t. joined-next c name p n e f t)
+      setns-case by s (After h (Setns c name) text list) (λ e i. nothing-happened s h a b) c name (λ p n e f t. joined-next c name p n e f t)

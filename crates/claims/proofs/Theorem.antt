@@ -18,46 +18,47 @@ use Rattle.credentials.specs.declared.translate.Way.{Way}
 use Rattle.credentials.specs.declared.translate.Way.the-variants.{Out, Back}
 use Rattle.calls.specs.declared.Call.{Call}
 use Rattle.calls.specs.declared.Call.the-variants.{Fork, Clone, Unshare, Setns, WriteMap, WriteSetgroups, ReadMap, ReadSetgroups, SetIds, SetGroups, Capable, Drop, OwnIdsOf, Translate}
-use Rattle.calls.specs.Calls.{Request, answerBy, answerOf}
+use Rattle.calls.specs.Calls.{Request, answerBy}
 use Rattle.claims.specs.Events.{Event}
 use Rattle.claims.specs.Words.{placeOf, parentOf, levelOf, linesOf}
 use Rattle.claims.specs.Translation.{Pairs, top, through, byLevels}
 use Rattle.claims.specs.TopLevel.{TopLevel, IsUnder, OutOf, Stands, OnParentSide}
-use Rattle.claims.specs.History.{Entry, runFrom, historyFrom, run, history, AllSmall, CallFits, Fits, AllFit, happenedBy, events}
+use Rattle.claims.specs.History.{Entry, entryOf, stepOf, runFrom, historyFrom, run, history, AllSmall, CallFits, Fits, AllFit, happenedBy, events}
 use Rattle.claims.specs.Holds.{Answers, TranslatesTo, TranslatesBy, Translates, Holds}
-use Rattle.claims.proofs.Matching.{Matched, agreed}
+use Rattle.claims.specs.Agreement.{Agreed}
+use Rattle.claims.proofs.Beside.{Beside}
 use Rattle.claims.proofs.Sound.{deep}
 use Rattle.claims.proofs.Levels.{out-is, is-out, back-is, is-back, out-once, back-once, one-to-one, out-back, back-out, passes}
 use Rattle.claims.proofs.Allowed.{Valid, SoundAt, sound}
 use Rattle.claims.proofs.Stays.{stays, still-top}
 use Rattle.claims.proofs.Carried.{carried}
 use Rattle.claims.proofs.Stores.{space-named}
-use Rattle.claims.proofs.Translating.{byHistory, levels-history}
+use Rattle.claims.proofs.Translating.{LiftsAt, lifts, byHistory, levels-history}
 use Rattle.claims.proofs.Steps.{Next, nothing-happened, fork-next, clone-next, unshare-next, setns-next}
 use Rattle.claims.proofs.Cases.{found-case}
 use Rattle.claims.proofs.FileSteps.{write-map-next, write-setgroups-next}
 use Rattle.claims.proofs.IdSteps.{set-ids-next, set-groups-next, drop-next}
-use Rattle.claims.proofs.Start.{start-agrees}
+use Rattle.claims.proofs.Start.{start-agrees, start-beside}
 
 -- ---- one call
-module _ (by : Translation) (s : State) (h : List Event) (a : Matched s h) (d : SoundAt h) (u : by ≡ byHistory h) (text list buffer : List ℕ) where
+module _ (by : Translation) (s : State) (h : List Event) (a : Agreed s h) (b : Beside s h) (d : SoundAt h) (o : LiftsAt h) (u : by ≡ byHistory h) (text list buffer : List ℕ) where
   -- its tables agree with the history that it lengthens, and it was allowed
   call-next : (c : Call) → CallFits c → AllSmall list → Next h (happenedBy c text list (answerBy by s c text list buffer .reply)) (answerBy by s c text list buffer .tables)
   unfolding answerBy
-  call-next (Fork c) f l = fork-next by s h a d text list c
-  call-next (Clone c) f l = clone-next by s h a d text list c
-  call-next (Unshare c) f l = unshare-next by s h a d text list c
-  call-next (Setns c n) f l = setns-next by s h a d text list c n
-  call-next (WriteMap k c p) f l = write-map-next by s h a d text list k c p
-  call-next (WriteSetgroups c p) f l = write-setgroups-next by s h a d text list c p
-  call-next (ReadMap k c p) f l = nothing-happened s h a
-  call-next (ReadSetgroups c p) f l = nothing-happened s h a
-  call-next (SetIds k c i) f l = set-ids-next by s h a u text list k c i (f .0) (f .1) (f .2)
-  call-next (SetGroups c) f l = set-groups-next by s h a u text list c l
-  call-next (Capable c n number) f l = nothing-happened s h a
-  call-next (Drop c p e) f l = drop-next by s h a u text list c p e
-  call-next (OwnIdsOf c) f l = nothing-happened s h a
-  call-next (Translate k w c n x) f l = nothing-happened s h a
+  call-next (Fork c) f l = fork-next by s h a b d o text list c
+  call-next (Clone c) f l = clone-next by s h a b d o text list c
+  call-next (Unshare c) f l = unshare-next by s h a b d o text list c
+  call-next (Setns c n) f l = setns-next by s h a b d o text list c n
+  call-next (WriteMap k c p) f l = write-map-next by s h a b d text list k c p
+  call-next (WriteSetgroups c p) f l = write-setgroups-next by s h a b d text list c p
+  call-next (ReadMap k c p) f l = nothing-happened s h a b
+  call-next (ReadSetgroups c p) f l = nothing-happened s h a b
+  call-next (SetIds k c i) f l = set-ids-next by s h a b u text list k c i (f .0) (f .1) (f .2)
+  call-next (SetGroups c) f l = set-groups-next by s h a b u text list c l
+  call-next (Capable c n number) f l = nothing-happened s h a b
+  call-next (Drop c p e) f l = drop-next by s h a b u text list c p e
+  call-next (OwnIdsOf c) f l = nothing-happened s h a b
+  call-next (Translate k w c n x) f l = nothing-happened s h a b
 
 -- ---- translate
 no-reply : {x : ℕ} → id x ≡ unmapped → ⊥
@@ -72,7 +73,7 @@ answers (Id x) R f r = (
 answers Unmapped R f r =
     ((λ y. ((λ e. absurd (no-reply (sym e))), (λ q. absurd (two-answers (f y .1 q))))), ((λ e y q. two-answers (f y .1 q)), (λ g. refl)))
 
-module _ (by : Translation) (s : State) (h : List Event) (a : Matched s h) (d : SoundAt h) (u : by ≡ byHistory h) where
+module _ (by : Translation) (s : State) (h : List Event) (d : SoundAt h) (u : by ≡ byHistory h) where
   -- what the tables translate to is what the history does
   pub by-history : (k : Kind) (w : Way) (n x : ℕ) → x < 2 ^ 32 → (y : ℕ) → (turned by k w n x ≡ Id y) ↔ TranslatesTo h k w n x y
   by-history k Out n x small y = (
@@ -116,30 +117,32 @@ AllTranslate (e ∷ h) = Translates (events h) e × AllTranslate h
 
 -- tables that a list of calls leaves, with its history
 pub record Reached (s : State) (h : List Entry) : Type 0 where
-  pub agree : Matched s (events h)
+  pub agree : Agreed s (events h)
+  pub beside : Beside s (events h)
   pub valid : Valid (events h)
   all-translate : AllTranslate h
 
 pub start : Reached initialTables []
 unfolding Valid AllTranslate
-start = record { agree = start-agrees; valid = tt; all-translate = tt }
+start = record { agree = start-agrees; beside = start-beside; valid = tt; all-translate = tt }
 
-pub step : (s : State) (h : List Entry) (r : Request) → Fits r → Reached s h → Reached (answerOf (byLevels s) s r .tables) (record { request = r; reply = answerOf (byLevels s) s r .reply } ∷ h)
+pub step : (s : State) (h : List Entry) (r : Request) → Fits r → Reached s h → Reached (stepOf byLevels s r .tables) (entryOf r (stepOf byLevels s r) ∷ h)
 unfolding Valid AllTranslate
 step s h r f a =
     let d = sound (events h) (a .valid) in
-    let o = levels-history s (events h) (a .agree) d in
-    let n = call-next (byLevels s) s (events h) (a .agree) d o (r .text) (r .list) (r .buffer) (r .call) (f .0) (f .1) in
+    let u = levels-history s (events h) (a .agree) d in
+    let n = call-next (byLevels s) s (events h) (a .agree) (a .beside) d (lifts (events h) (a .valid)) u (r .text) (r .list) (r .buffer) (r .call) (f .0) (f .1) in
     record {
       agree = n .agree;
+      beside = n .beside;
       valid = (n .allowed, a .valid);
-      all-translate = (call-translates (byLevels s) s (events h) (a .agree) d o (r .call) (r .text) (r .list) (r .buffer) (f .0), a .all-translate);
+      all-translate = (call-translates (byLevels s) s (events h) d u (r .call) (r .text) (r .list) (r .buffer) (f .0), a .all-translate);
     }
 
 steps : (s : State) (h : List Entry) (rs : List Request) → AllFit rs → Reached s h → Reached (runFrom byLevels s rs) (historyFrom byLevels s h rs)
 unfolding AllFit runFrom historyFrom
 steps s h [] f a = a
-steps s h (r ∷ rs) f a = steps (answerOf (byLevels s) s r .tables) (record { request = r; reply = answerOf (byLevels s) s r .reply } ∷ h) rs (f .1) (step s h r (f .0) a)
+steps s h (r ∷ rs) f a = steps (stepOf byLevels s r .tables) (entryOf r (stepOf byLevels s r) ∷ h) rs (f .1) (step s h r (f .0) a)
 
 pub reached : (rs : List Request) → AllFit rs → Reached (run rs) (history rs)
 reached rs f = steps initialTables [] rs f start
@@ -174,7 +177,7 @@ theorem rs f =
     let r = reached rs f in
     let d = sound h (r .valid) in
     record {
-      tables-agree = agreed (run rs) h (r .agree);
+      tables-agree = r .agree;
       numbered = d .no-zero;
       translates = λ new old e q. some-translate new old e (subst AllTranslate q (r .all-translate));
       looked-up = λ k n x y small. (

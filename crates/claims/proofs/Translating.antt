@@ -24,7 +24,9 @@ use Rattle.prelude.proofs.Tests.{by-test}
 use Rattle.claims.specs.Translation.{byLevels, outBy, backBy}
 use Rattle.claims.specs.Events.{Event, other, forked, cloned, unshared, joined, mapped, changed, grouped}
 use Rattle.claims.specs.Words.{isNamespace, placeOf, parentOf, levelOf, mapOf, orNone, linesOf, standsFor}
-use Rattle.claims.proofs.Matching.{Matched, liftOf}
+use Rattle.claims.specs.Agreement.{Agreed}
+use Rattle.claims.specs.LiftedMaps.{liftOf}
+use Rattle.claims.proofs.Beside.{Beside}
 use Rattle.claims.proofs.Pairs.{back-pairs, parent-small}
 use Rattle.claims.proofs.Agree.{lines-of}
 use Rattle.claims.proofs.Sound.{deep}
@@ -110,7 +112,7 @@ unfolding outBy
 root-out up lines zero n x z = rw (eq-eqb n 0 z)
 root-out up lines (suc k) n x z = rw (eq-eqb n 0 z)
 
-module _ (s : State) (h : List Event) (a : Matched s h) (d : SoundAt h) (o : LiftsAt h) (k : Kind) where
+module _ (s : State) (h : List Event) (b : Beside s h) (d : SoundAt h) (o : LiftsAt h) (k : Kind) where
   abbrev lift : ℕ → List Line
   lift n = liftOf k h n .lines
 
@@ -122,26 +124,26 @@ module _ (s : State) (h : List Event) (a : Matched s h) (d : SoundAt h) (o : Lif
   unfolding outIn outBy
   out-agrees zero n x = refl
   out-agrees (suc f) n x =
-      rw (a .namespace-lifted k n)
+      rw (b .lifted k n)
       (ap (λ (g : ℕ → Translated). cond (eqb n 0) (itself x) (thenId (out (lift n) x) g)) (λ i y. out-agrees f (base n) y i))
 
   back-agrees : (f n y : ℕ) → backIn s k f n y ≡ backBy base lift f n y
   unfolding backIn backBy
   back-agrees zero n y = refl
   back-agrees (suc f) n y =
-      rw (a .namespace-lifted k n)
+      rw (b .lifted k n)
       (ap (λ (t : Translated). cond (eqb n 0) (itself y) (thenId t (λ z. back (lift n) z))) (back-agrees f (base n) y))
 
   to-agrees : (n x : ℕ) → toKernel s k n x ≡ outBy base lift 32 n x
   unfolding toKernel toKernelBy outBy
   to-agrees n x =
-      rw (a .namespace-lifted k n)
+      rw (b .lifted k n)
       (ap (λ (g : ℕ → Translated). cond (eqb n 0) (itself x) (thenId (out (lift n) x) g)) (λ i y. out-agrees 31 (base n) y i))
 
   from-agrees : (n y : ℕ) → fromKernel s k n y ≡ backBy base lift 32 n y
   unfolding fromKernel fromKernelBy backBy
   from-agrees n y =
-      rw (a .namespace-lifted k n)
+      rw (b .lifted k n)
       (ap (λ (t : Translated). cond (eqb n 0) (itself y) (thenId t (λ z. back (lift n) z))) (back-agrees 31 (base n) y))
 
   -- ---- which give what the maps give level by level
@@ -210,7 +212,7 @@ byHistory h = record {
   back = λ (k : Kind) (n y : ℕ). backBy (parentOf h) (linesOf k h) (levelOf h n) n y;
 }
 
-module _ (s : State) (h : List Event) (a : Matched s h) (d : SoundAt h) where
+module _ (s : State) (h : List Event) (a : Agreed s h) (d : SoundAt h) where
   map-agrees : (k : Kind) (n : ℕ) → mapLinesOf (mapIn k (namespaceAt s n)) ≡ linesOf k h n
   map-agrees k n = sym (lines-of (mapIn k (namespaceAt s n))) ∙ ap orNone (a .namespace-map k n)
 
@@ -226,8 +228,8 @@ module _ (s : State) (h : List Event) (a : Matched s h) (d : SoundAt h) where
   }
 
   -- the translation by lifted maps is the level by level one: out and back, for every kind, namespace and number
-  pub same-translation : LiftsAt h → byLiftedMaps s ≡ byLevels s
+  pub same-translation : Beside s h → LiftsAt h → byLiftedMaps s ≡ byLevels s
   unfolding byLiftedMaps
-  same-translation o =
-      (λ i. record { out = λ (k : Kind) (n x : ℕ). stands-agrees s h a d o k n x i; back = λ (k : Kind) (n y : ℕ). returns-agrees s h a d o k n y i })
+  same-translation b o =
+      (λ i. record { out = λ (k : Kind) (n x : ℕ). stands-agrees s h b d o k n x i; back = λ (k : Kind) (n y : ℕ). returns-agrees s h b d o k n y i })
       ∙ sym levels-history

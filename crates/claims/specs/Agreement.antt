@@ -33,6 +33,11 @@ linesIf (Written n) ls = some (take n ls)
 abbrev pub writtenIn : IdMap → Option (List Line)
 writtenIn m = linesIf (m .state) (m .lines)
 
+-- how the record says so: unwritten, or written with as many lines
+abbrev pub stateFor : Option (List Line) → MapState
+stateFor none = Unwritten
+stateFor (some ls) = Written (length ls)
+
 -- tables of 128 places for processes and 64 for namespaces, in which process i + 1 stands at place i and namespace n at place n: exactly those
 -- are live that are processes and namespaces, each process has its namespace and its IDs of both kinds, each namespace its parent, its level and
 -- its maps of both kinds
@@ -42,10 +47,12 @@ pub record Agrees (s : State) (isP isN : ℕ → Bool) (place up level : ℕ →
   pub process-live : (i : ℕ) → processAt s i .live ≡ isP (suc i)
   pub process-place : (i : ℕ) → processAt s i .namespace ≡ place (suc i)
   pub process-ids : (k : Kind) (i : ℕ) → heldIn k (processAt s i) ≡ carries k (suc i)
+  pub process-count : (i : ℕ) → processAt s i .supplementary .count ≡ length (carries Group (suc i) .more)
   pub namespace-live : (n : ℕ) → namespaceAt s n .live ≡ isN n
   pub namespace-parent : (n : ℕ) → namespaceAt s n .parent ≡ up n
   pub namespace-level : (n : ℕ) → namespaceAt s n .level ≡ level n
   pub namespace-map : (k : Kind) (n : ℕ) → writtenIn (mapIn k (namespaceAt s n)) ≡ maps k n
+  pub namespace-state : (k : Kind) (n : ℕ) → mapIn k (namespaceAt s n) .state ≡ stateFor (maps k n)
 
 -- the tables agree with a list of events
 abbrev pub Agreed : State → List Event → Type 0

@@ -6,40 +6,38 @@ use Rattle.tables.specs.Reply.{Reply, refused, done, child, childIn, newNamespa
 use Rattle.hierarchy.specs.Walks.{Translation}
 use Rattle.calls.specs.declared.Call.{Call}
 use Rattle.calls.specs.declared.Call.the-variants.{Fork, Clone, Unshare, Setns, WriteMap, WriteSetgroups, ReadMap, ReadSetgroups, SetIds, SetGroups, Capable, Drop, OwnIdsOf, Translate}
-use Rattle.calls.specs.Calls.{Request, answerOf}
+use Rattle.calls.specs.Calls.{Request, Step, answerOf}
 use Rattle.claims.specs.Translation.{byLevels}
 use Rattle.claims.specs.Events.{Event, other, forked, cloned, unshared, joined, mapped, changed, grouped}
 
 -- ---- the run
--- a call with what was answered
+-- a call with what was answered, and the buffer that it left
 pub record Entry : Type 0 where
   pub request : Request
   pub reply : Reply
-
--- what a call answers, and the buffer that it leaves
-pub record Answered : Type 0 where
-  pub reply : Reply
   pub buffer : List ℕ
 
--- by: how IDs are translated, at each state of the tables. The first call gets the tables given, each other one those that the call before it left,
--- refused or not
+abbrev pub entryOf : Request → Step → Entry
+entryOf r o = record { request = r; reply = o .reply; buffer = o .buffer }
+
+-- by: how IDs are translated, at each state of the tables
 module _ (by : State → Translation) where
+  -- what a call answers on tables s, and what it leaves
+  abbrev pub stepOf : State → Request → Step
+  stepOf s r = answerOf (by s) s r
+
+  -- the first call gets the tables given, each other one those that the call before it left, refused or not
   unfoldable pub runFrom : State → List Request → State
   runFrom s [] = s
-  runFrom s (r ∷ rs) = runFrom (answerOf (by s) s r .tables) rs
+  runFrom s (r ∷ rs) = runFrom (stepOf s r .tables) rs
 
   -- the calls with their answers, newest first, after those that were there
   unfoldable pub historyFrom : State → List Entry → List Request → List Entry
   historyFrom s h [] = h
-  historyFrom s h (r ∷ rs) = historyFrom (answerOf (by s) s r .tables) (record { request = r; reply = answerOf (by s) s r .reply } ∷ h) rs
+  historyFrom s h (r ∷ rs) = historyFrom (stepOf s r .tables) (entryOf r (stepOf s r) ∷ h) rs
 
-  -- of each call in order what it answers, and the buffer that it leaves
-  unfoldable pub answersFrom : State → List Request → List Answered
-  answersFrom s [] = []
-  answersFrom s (r ∷ rs) = record { reply = answerOf (by s) s r .reply; buffer = answerOf (by s) s r .buffer } ∷ answersFrom (answerOf (by s) s r .tables) rs
-
--- the tables after a list of calls from the fresh start, and the list's history, with document 01's translation. That the code's runs have these
--- tables and this history is `executions` of proofs/Same.antt
+-- the tables after a list of calls from the fresh start, and the list's history, with document 01's translation. That what a host does with the code has
+-- these tables and this history is `executes` of proofs/Executes.antt
 abbrev pub run : List Request → State
 run rs = runFrom byLevels initialTables rs
 

@@ -4,8 +4,10 @@ pub mod Translation
 pub mod TopLevel
 pub mod History
 pub mod Agreement
+pub mod LiftedMaps
 pub mod Holds
 pub mod Bounds
 pub mod Refusals
-pub mod Same
+pub mod AsDocument
+pub mod Execution
 pub mod Scenarios

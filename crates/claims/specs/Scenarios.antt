@@ -5,7 +5,7 @@ use Prim.Native.Char.{code}
 use Prim.Native.String.{String, [] as empty, _∷_ as _then_}
 use mathlib.Core.Path.{_≡_}
 use mathlib.Core.Bool.{Bool, true, false}
-use mathlib.Core.List.{List, [], _∷_, _++_, map}
+use mathlib.Core.List.{List, [], _∷_, _++_, map, reverse}
 use lib.ListN.{length, replicate}
 use Rattle.capability.specs.Sets.{fullSet, emptySet}
 use Rattle.idmap.specs.declared.Line.{Line}
@@ -23,8 +23,7 @@ use Rattle.credentials.specs.declared.translate.Way.the-variants.{Out}
 use Rattle.calls.specs.declared.Call.{Call}
 use Rattle.calls.specs.declared.Call.the-variants.{Fork, Unshare, WriteMap, WriteSetgroups, ReadMap, SetIds, SetGroups, Capable, Translate}
 use Rattle.calls.specs.Calls.{Request}
-use Rattle.claims.specs.Translation.{byLevels}
-use Rattle.claims.specs.History.{Answered, answersFrom, run}
+use Rattle.claims.specs.History.{Entry, run, history}
 
 -- ---- requests
 -- the bytes of a text. Each text here is ASCII, in which a character's code is its byte
@@ -72,23 +71,18 @@ abbrev pub translateOut : Kind → ℕ → ℕ → ℕ → Request
 translateOut kind caller name x = plain (Translate kind Out caller name x)
 
 -- ---- rows: a call, the reply that it is to get, and the buffer that it is to leave
-pub record Row : Type 0 where
-  pub request : Request
-  pub reply : Reply
-  pub buffer : List ℕ
-
 infixl 70 _⇒_ _leaving_
 -- the buffer is to stay as it was lent
-abbrev pub _⇒_ : Request → Reply → Row
+abbrev pub _⇒_ : Request → Reply → Entry
 request ⇒ reply = record { request = request; reply = reply; buffer = request .buffer }
 
 -- the buffer is to hold this text
-abbrev pub _leaving_ : Row → String → Row
+abbrev pub _leaving_ : Entry → String → Entry
 row leaving text = record { request = row .request; reply = row .reply; buffer = bytesOf text }
 
 -- ---- scenarios: calls on the initial tables, and all processes and namespaces that there are to be after them, in the order of their numbers
 pub record Scenario : Type 0 where
-  pub rows : List Row
+  pub rows : List Entry
   pub processes : List Process
   pub namespaces : List Namespace
 
@@ -125,14 +119,14 @@ only Group ls User = unwritten User
 only Group ls Group = written ls
 
 -- document 01: process 2 is a fork of 1, set to group 1000 and then user 1000, and has unshared into namespace 1
-abbrev pub setup : List Row
+abbrev pub setup : List Entry
 setup = fork 1 ⇒ child 2 ∷ setIds Group 2 1000 ⇒ done ∷ setIds User 2 1000 ⇒ done ∷ unshare 2 ⇒ newNamespace 1 ∷ []
 
 abbrev pub firstTwo : List Process
 firstTwo = firstProcess ∷ process 1 1000 1000 fullSet ∷ []
 
 -- a scenario whose calls after the setup change nothing but the maps of namespace 1
-abbrev pub scenario : List Row → (Kind → IdMap) → Scenario
+abbrev pub scenario : List Entry → (Kind → IdMap) → Scenario
 scenario rows maps = record { rows = setup ++ rows; processes = firstTwo; namespaces = rootNamespace ∷ madeBy1000 maps false ∷ [] }
 
 -- where document 01 does not say which map is written, the user map is and, in a scenario of its own, the group map
@@ -208,21 +202,21 @@ scenarios =
     } ∷ [])
 
 -- ---- what is said of the table
--- what comes out of calls: of each call in order what it answers, and the tables at the end
+-- what comes out of calls: the calls with their answers, newest first, and the tables at the end
 pub record Result : Type 0 where
-  pub answers : List Answered
+  pub told : List Entry
   pub tables : State
 
 abbrev pub requests : Scenario → List Request
-requests c = map (λ (row : Row). row .request) (c .rows)
+requests c = map (λ (row : Entry). row .request) (c .rows)
 
 abbrev pub found : Scenario → Result
-found c = record { answers = answersFrom byLevels initialTables (requests c); tables = run (requests c) }
+found c = record { told = history (requests c); tables = run (requests c) }
 
 -- of the 128 places for processes and the 64 for namespaces the others are free. No namespace is deeper than level 1, so a map is lifted as it stands
 abbrev pub expected : Scenario → Result
 expected c = record {
-  answers = map (λ (row : Row). record { reply = row .reply; buffer = row .buffer }) (c .rows);
+  told = reverse (c .rows);
   tables = record {
     processes = c .processes ++ replicate (128 - length (c .processes)) freeProcess;
     namespaces = c .namespaces ++ replicate (64 - length (c .namespaces)) freeNamespace;
