@@ -1,14 +1,14 @@
 -- The laws of a part of a list and of a store into one: what is put is there, and everything else is as it was. Assumes nothing.
-use Prim.Native.Nat.{ℕ, _+_, _≤_, _<_, _-_}
+use Prim.Native.Nat.{ℕ, zero, suc, _+_, _≤_, _<_, _-_}
 use mathlib.Core.Path.{_≡_, sym, ap, _∙_}
 use mathlib.Core.Bool.{true, false}
-use mathlib.Core.List.{List, _++_, append-assoc}
+use mathlib.Core.List.{List, [], _∷_, _++_, append-assoc}
 use mathlib.Core.Logic.{⊎-elim, _⊎_, inl, inr}
 use native.Mathlib.Numerals.{add-one}
 use native.Mathlib.Omega.{arith}
 use lib.Dec.{leb}
-use lib.ListN.{length, getD, set, take, drop, length-set, length-append, length-take, length-drop, drop-of-length-le, List·getD-append}
-use lib.Seq.{drop-at, drop-length, take-all, take-nil, take-append-seam, take-length, length-take-le}
+use lib.ListN.{length, getD, set, take, drop, length-set, length-append, length-take, length-drop, take-append-drop, drop-of-length-le, List·getD-append}
+use lib.Seq.{drop-at, drop-length, take-all, take-nil, take-append-seam, take-length, length-take-le, drop-drop, take-take}
 use lib.Seq.{ext-getD, getD-take, getD-drop, getD-append-add, paste, paste-zero, paste-suc}
 use borrow.Author.Needs.{needs}
 use borrow.Author.Tests.{le-leb, lt-leb, leb-true, leb-false}
@@ -124,6 +124,45 @@ module _ (l : List ℕ) (at : ℕ) (vs : List ℕ) where
   part-put-apart w a apart =
       part-agree w a (putAt l at vs) l length-put
       (λ j h. put-elsewhere (a + j) (⊎-elim (λ after. inl (omega arith)) (λ before. inr (omega arith)) apart))
+
+-- A store at the start of a row is a store of that row with these values at its start.
+drop-take : (a v : ℕ) (x : List ℕ) → drop a (take v x) ≡ take (v - a) (drop a x)
+drop-take zero v x = let e : v ≡ v - 0 = omega arith in ap (λ (k : ℕ). take k x) e
+drop-take (suc a) zero x = let e : 0 - suc a ≡ 0 = omega arith in rw e
+drop-take (suc a) (suc v) [] = sym (take-nil (suc v - suc a))
+drop-take (suc a) (suc v) (c ∷ x) = let e : suc v - suc a ≡ v - a = omega arith in drop-take a v x ∙ rw e
+
+pub part-part : (w a v b : ℕ) (l : List ℕ) → a + w ≤ v → take w (drop a (part v b l)) ≡ part w (b + a) l
+unfolding part
+part-part w a v b l h = rw (drop-take a v (drop b l), take-take w (v - a) (drop a (drop b l)) (omega arith), drop-drop a b l)
+
+module _ (l : List ℕ) (at w : ℕ) (vs : List ℕ) (fits : at + w ≤ length l) (short : length vs ≤ w) where
+  abbrev row : List ℕ
+  row = part w at l
+
+  row-is : putAt row 0 vs ≡ vs ++ drop (length vs) row
+  row-is =
+      let e : 0 + length vs ≡ length vs = omega arith in
+      put-inside row 0 vs (omega (arith, length-part w at l fits)) ∙ ap (λ (n : ℕ). vs ++ drop n row) e
+
+  pub length-row : length (putAt row 0 vs) ≡ w
+  length-row = length-put row 0 vs ∙ length-part w at l fits
+
+  after-row : drop (length vs) row ++ drop (at + w) l ≡ drop (at + length vs) l
+  unfolding part
+  after-row =
+      let e : at + w ≡ at + length vs + (w - length vs) = omega arith in
+      rw (drop-take (length vs) w (drop at l), drop-drop (length vs) at l, e, ← drop-drop (w - length vs) (at + length vs) l)
+      (take-append-drop (w - length vs) (drop (at + length vs) l))
+
+  pub put-row : putAt l at vs ≡ putAt l at (putAt row 0 vs)
+  put-row =
+      put-inside l at vs (omega arith)
+      ∙ ap (λ (r : List ℕ). take at l ++ vs ++ r) (sym after-row)
+      ∙ sym (append-assoc (take at l ++ vs) (drop (length vs) row) (drop (at + w) l))
+      ∙ ap (λ (r : List ℕ). r ++ drop (at + w) l) (append-assoc (take at l) vs (drop (length vs) row))
+      ∙ (λ i. take at l ++ sym row-is i ++ drop (at + sym length-row i) l)
+      ∙ sym (put-inside l at (putAt row 0 vs) (omega (arith, length-row)))
 
 -- The tests and the loop of the code.
 module _ (l : List ℕ) (at : ℕ) (vs : List ℕ) where

@@ -7,7 +7,7 @@ use lib.ListN.{length, take, drop}
 use lib.Seq.{drop-drop, take-take, take-nil}
 use borrow.Author.Needs.{needs}
 use Rattle.prelude.specs.Parts.{part}
-use Rattle.prelude.proofs.Parts.{length-part}
+use Rattle.prelude.proofs.Parts.{length-part, part-part}
 use Rattle.idmap.specs.Line.{linesIn}
 use Rattle.lifted_map.specs.Lift.{Lifted, countedLines, liftedIn}
 use Rattle.rows.proofs.Rows.{row-get, row-none}
@@ -19,17 +19,6 @@ use Rattle.records.specs.Records.{mapOf, mapFrom, namespaceOf, freeNamespace, m
 use Rattle.tables.specs.Tables.{tablesOf, namespaceAt, noLift, liftedAt}
 
 -- ---- map_lines
--- a part of a part
-drop-take : (a v : ℕ) (x : List ℕ) → drop a (take v x) ≡ take (v - a) (drop a x)
-drop-take zero v x = let e : v ≡ v - 0 = omega arith in ap (λ (k : ℕ). take k x) e
-drop-take (suc a) zero x = let e : 0 - suc a ≡ 0 = omega arith in rw e
-drop-take (suc a) (suc v) [] = sym (take-nil (suc v - suc a))
-drop-take (suc a) (suc v) (c ∷ x) = let e : suc v - suc a ≡ v - a = omega arith in drop-take a v x ∙ rw e
-
-part-part : (w a v b : ℕ) (l : List ℕ) → a + w ≤ v → take w (drop a (part v b l)) ≡ part w (b + a) l
-unfolding part
-part-part w a v b l h = rw (drop-take a v (drop b l), take-take w (v - a) (drop a (drop b l)) (omega arith), drop-drop a b l)
-
 -- a namespace past the table has no lines, of either kind
 no-lines : (k : Kind) → linesOf (mapIn k freeNamespace) ≡ []
 no-lines User = refl

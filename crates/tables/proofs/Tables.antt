@@ -4,13 +4,12 @@ use mathlib.Core.Path.{_≡_, refl, sym, ap, _∙_}
 use mathlib.Core.List.{List}
 use mathlib.Core.Logic.{inl, inr}
 use native.Mathlib.Omega.{arith}
-use lib.ListN.{length, set, replicate}
+use lib.ListN.{length, getD, set, replicate}
 use borrow.Author.Needs.{needs}
 use Rattle.prelude.specs.Parts.{part, putAt}
-use Rattle.prelude.proofs.Parts.{length-part}
+use Rattle.prelude.proofs.Parts.{length-part, length-put, put-word, length-row, put-row}
 use Rattle.rows.specs.Rows.{rows}
 use Rattle.rows.proofs.Rows.{row-put, row-get, row-none, row-out, rows-apart, length-rows}
-use Rattle.idmap.specs.Line.{linesIn}
 use Rattle.lifted_map.specs.Lift.{Lifted, countedLines, liftedIn}
 use Rattle.records.specs.declared.Process.{Process}
 use Rattle.records.specs.declared.Namespace.{Namespace}
@@ -18,7 +17,7 @@ use Rattle.records.specs.declared.Kind.{Kind}
 use Rattle.records.specs.declared.Kind.the-variants.{User, Group}
 use Rattle.records.specs.Records.{processOf, processFrom, freeProcess, namespaceOf, namespaceFrom, freeNamespace}
 use Rattle.records.proofs.Records.{process-whole, namespace-whole}
-use Rattle.tables.specs.Tables.{State, tablesOf, processAt, namespaceAt, liftedMaps, noLift, putProcess, putNamespace, putLiftedMap, clearLiftedMaps}
+use Rattle.tables.specs.Tables.{State, tablesOf, processAt, namespaceAt, byKind, liftedMaps, noLift, putProcess, putNamespace, putLiftedMap, clearLiftedMaps}
 
 pub length-processes : (l : List ℕ) → length (tablesOf l .processes) ≡ 128
 unfolding tablesOf
@@ -115,14 +114,38 @@ module _ (l : List ℕ) (i : ℕ) where
         (rows-apart liftedIn 101 64 5952 l (12416 + i * 101) ws (inr (omega arith)))
         (row-put liftedIn 101 64 12416 l i ws (12416 + i * 101) refl h w (omega arith)))
 
--- a lifted map of either kind, cleared
-pub lifted-maps-cleared : (s₀ s₁ s₂ : State) (i : ℕ) (u g : Lifted) → s₁ ≡ putLiftedMap s₀ User i u → s₂ ≡ putLiftedMap s₁ Group i g → u ≡ noLift → g ≡ noLift → s₂ ≡ clearLiftedMaps s₀ i
-lifted-maps-cleared s₀ s₁ s₂ i u g e f p q = f ∙ rw (e, p, q)
+-- ---- clearing: a row that starts with no lines and base 0 holds no lifted map
+row-cleared : (ws : List ℕ) → 2 ≤ length ws → liftedIn (putAt ws 0 (replicate 2 0)) ≡ noLift
+unfolding liftedIn countedLines
+row-cleared ws h =
+    let count : getD (putAt ws 0 (replicate 2 0)) 0 0 ≡ 0 = put-word ws 0 (replicate 2 0) h 0 (omega arith) in
+    let base : getD (putAt ws 0 (replicate 2 0)) 1 0 ≡ 0 = put-word ws 0 (replicate 2 0) h 1 (omega arith) in
+    rw (count, base)
 
-pub row-empty : liftedIn (replicate 101 0) ≡ noLift
-unfolding liftedIn countedLines part linesIn
-row-empty = refl
+module _ (l l′ : List ℕ) (i : ℕ) (long : length l ≡ 18880) (h : i < 64) where
+  lifted-put : (k : Kind) (ws : List ℕ) → length ws ≡ 101 → l′ ≡ putAt l (byKind k 5952 12416 + i * 101) ws → tablesOf l′ ≡ putLiftedMap (tablesOf l) k i (liftedIn ws)
+  lifted-put User ws w e = lifted-users-put l i l′ ws long User w h refl e
+  lifted-put Group ws w e = lifted-groups-put l i l′ ws long Group w h refl e
+
+  row-fits : (k : Kind) → byKind k 5952 12416 + i * 101 + 101 ≤ length l
+  row-fits User = omega arith
+  row-fits Group = omega arith
+
+  lifted-cleared : (k : Kind) → l′ ≡ putAt l (byKind k 5952 12416 + i * 101) (replicate 2 0) → tablesOf l′ ≡ putLiftedMap (tablesOf l) k i noLift
+  lifted-cleared k e =
+      let at = byKind k 5952 12416 + i * 101 in
+      lifted-put k (putAt (part 101 at l) 0 (replicate 2 0)) (length-row l at 101 (replicate 2 0) (row-fits k) (omega arith)) (e ∙ put-row l at 101 (replicate 2 0) (row-fits k) (omega arith))
+      ∙ ap (putLiftedMap (tablesOf l) k i) (row-cleared (part 101 at l) (omega (arith, length-part 101 at l (row-fits k))))
+
+pub lifted-maps-cleared : (l l₁ l₂ : List ℕ) (i : ℕ) → length l ≡ 18880 → i < 64 → l₁ ≡ putAt l (5952 + i * 101) (replicate 2 0) → l₂ ≡ putAt l₁ (12416 + i * 101) (replicate 2 0) → tablesOf l₂ ≡ clearLiftedMaps (tablesOf l) i
+lifted-maps-cleared l l₁ l₂ i long h e f =
+    lifted-cleared l₁ l₂ i (ap length e ∙ length-put l (5952 + i * 101) (replicate 2 0) ∙ long) h Group f
+    ∙ ap (λ (s : State). putLiftedMap s Group i noLift) (lifted-cleared l l₁ i long h User e)
+
+pub lifted-maps-none : (l : List ℕ) (i : ℕ) → 64 ≤ i → tablesOf l ≡ clearLiftedMaps (tablesOf l) i
+lifted-maps-none l i h =
+    lifted-map-out l i Group noLift h ∙ ap (λ (s : State). putLiftedMap s Group i noLift) (lifted-map-out l i User noLift h)
 
 pub ruleset loads = (process-get, namespace-get, process-none, namespace-none, needs)
 
-pub ruleset stores = (process-out, namespace-out, process-put, namespace-put, lifted-map-out, lifted-users-put, lifted-groups-put, lifted-maps-cleared, row-empty, needs)
+pub ruleset stores = (process-out, namespace-out, process-put, namespace-put, lifted-map-out, lifted-users-put, lifted-groups-put, lifted-maps-cleared, lifted-maps-none, needs)

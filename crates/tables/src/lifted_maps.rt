@@ -48,11 +48,15 @@ pub fn lifted_map_put(t: &mut Tables, kind: Kind, place: usize, map: &LiftedMap)
     }
 }
 
-// Leaves a namespace without a lifted map of either kind. A place past the end has none.
+// Leaves a namespace without a lifted map of either kind: no lines, and base 0. What stands past these two words is then not read. A place
+// past the end has none.
 pub fn lifted_maps_clear(t: &mut Tables, place: usize)
     ensures { λ r. ⌜ tablesOf (now (t .exit)) ≡ clearLiftedMaps (tablesOf (now (t .entry))) place ⌝ }
 {
-    let none: LiftedMap = [0; 101];
-    lifted_map_put(t, Kind::User, place, &none);
-    lifted_map_put(t, Kind::Group, place, &none);
+    if 64 <= place {
+        return;
+    }
+    let none: [u64; 2] = [0; 2];
+    rows::put(t, 5952 + place * 101, &none);
+    rows::put(t, 12416 + place * 101, &none);
 }
