@@ -1,7 +1,7 @@
 -- The entry point: each call's promise is the step's. Assumes nothing.
 use mathlib.Core.Path.{_≡_, refl, sym, ap, _∙_, subst}
 use mathlib.Core.Bool.{true}
-use mathlib.Core.List.{List, [], map}
+use mathlib.Core.List.{List, map}
 use Prim.Native.Nat.{ℕ, _-_}
 use lib.ListN.{length, take, replicate}
 use lib.Seq.{take-append-seam}
@@ -9,7 +9,6 @@ use borrow.Author.Needs.{needs}
 use Rattle.records.specs.declared.Kind.{Kind}
 use Rattle.records.specs.declared.Kind.the-variants.{User, Group}
 use Rattle.records.specs.declared.Ids.{Ids}
-use Rattle.tables.specs.declared.answer.Errno.the-variants.{ESRCH}
 use Rattle.tables.specs.declared.answer.Answer.{Answer}
 use Rattle.tables.specs.declared.answer.Answer.the-variants.{Refused, Done, Child, ChildIn, NewNamespace, Yes, No, Length, Id, Unmapped, Own}
 use Rattle.tables.specs.declared.find.Found.{Found}
@@ -22,7 +21,7 @@ use Rattle.process.specs.Calls.{forkOf, cloneOf, unshareOf, setnsOf}
 use Rattle.mapping.specs.Calls.{ReadOutcome, writeMapOf, writeSetgroupsOf, readMapOf, readSetgroupsOf}
 use Rattle.credentials.specs.declared.own.OwnIds.{OwnIds}
 use Rattle.credentials.specs.declared.translate.Way.{Way}
-use Rattle.credentials.specs.Calls.{setIdsOf, groupList, setGroupsOf, capableReply, dropOf, seen, noIds, seenIds, seenGroups, ownIdsOf, translateReply}
+use Rattle.credentials.specs.Calls.{setIdsOf, groupList, setGroupsOf, capableReply, dropOf, seen, seenIds, seenGroups, ownIdsOf, translateReply}
 use Rattle.calls.specs.declared.Call.{Call}
 use Rattle.calls.specs.declared.Call.the-variants.{Fork, Clone, Unshare, Setns, WriteMap, WriteSetgroups, ReadMap, ReadSetgroups, SetIds, SetGroups, Capable, Drop, OwnIdsOf, Translate}
 use Rattle.calls.specs.Calls.{Step, callReply, plainOf, resultOf, stored, asked, readBy, answerBy, CallPromise}
@@ -63,10 +62,6 @@ groups-whole : (xs : List ℕ) → groupList xs ≡ groupList (take (groupList x
 unfolding groupList
 groups-whole xs = ap groupList (sym (take-append-seam xs (replicate (16 - length xs) 0)))
 
-no-groups : groupList [] ≡ plainOf Done .supplementary
-unfolding groupList
-no-groups = refl
-
 found-whole : (f : Found) {x : OwnIds} {next : ℕ → OwnIds} → Whole x → ((i : ℕ) → Whole (next i)) → Whole (onFound f x next)
 found-whole (At i) p q = q i
 found-whole Nothing p q = p
@@ -74,7 +69,7 @@ found-whole Nothing p q = p
 own-whole : (by : Translation) (s : State) (c : ℕ) → Whole (ownIdsOf by s c)
 unfolding ownIdsOf seenGroups
 own-whole by s c =
-    found-whole (processNamed s c) (λ j. record { answer = Refused ESRCH; users = noIds; groups = noIds; supplementary = no-groups j })
+    found-whole (processNamed s c) refl
     (λ i j. record {
       answer = Own;
       users = seenIds by User (processAt s i .namespace) (processAt s i .users);

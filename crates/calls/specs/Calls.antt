@@ -2,7 +2,7 @@
 use Prim.Native.Nat.{ℕ}
 use mathlib.Core.Path.{_≡_}
 use mathlib.Core.Bool.{true}
-use mathlib.Core.List.{List, _∷_}
+use mathlib.Core.List.{List, [], _∷_}
 use lib.ListN.{getD, take, drop, replicate}
 use Rattle.records.specs.declared.Ids.{Ids}
 use Rattle.records.specs.declared.GroupList.{GroupList}
@@ -56,25 +56,28 @@ callReply r = replyBeside (r .answer) (r .users) (r .groups) (r .supplementary)
 abbrev pub plainOf : Answer → OwnIds
 plainOf a = record { answer = a; users = noIds; groups = noIds; supplementary = record { count = 0; ids = replicate 16 0 } }
 
--- the whole result of an answer with its reply: own IDs stand beside it as the reply lists them, with zeros past the groups, and zeros beside every
--- other answer
+-- the IDs that a reply lists
+abbrev pub listedIn : Reply → List ℕ
+listedIn (ids l) = l
+listedIn (refused e) = []
+listedIn done = []
+listedIn (child p) = []
+listedIn (childIn p n) = []
+listedIn (newNamespace n) = []
+listedIn yes′ = []
+listedIn no′ = []
+listedIn (bytes n) = []
+listedIn (id x) = []
+listedIn unmapped = []
+
+-- the whole result of an answer: beside it stand the IDs that its reply lists, and zeros where it lists none
 abbrev pub resultOf : Answer → Reply → OwnIds
-resultOf a (ids l) = record {
+resultOf a r = record {
   answer = a;
-  users = record { real = getD l 0 0; effective = getD l 1 0; saved = getD l 2 0 };
-  groups = record { real = getD l 3 0; effective = getD l 4 0; saved = getD l 5 0 };
-  supplementary = groupList (drop 6 l);
+  users = record { real = getD (listedIn r) 0 0; effective = getD (listedIn r) 1 0; saved = getD (listedIn r) 2 0 };
+  groups = record { real = getD (listedIn r) 3 0; effective = getD (listedIn r) 4 0; saved = getD (listedIn r) 5 0 };
+  supplementary = groupList (drop 6 (listedIn r));
 }
-resultOf a (refused e) = plainOf a
-resultOf a done = plainOf a
-resultOf a (child p) = plainOf a
-resultOf a (childIn p n) = plainOf a
-resultOf a (newNamespace n) = plainOf a
-resultOf a yes′ = plainOf a
-resultOf a no′ = plainOf a
-resultOf a (bytes n) = plainOf a
-resultOf a (id x) = plainOf a
-resultOf a unmapped = plainOf a
 
 -- ---- the one definition that a list of calls folds
 abbrev pub stored : Outcome → List ℕ → Step

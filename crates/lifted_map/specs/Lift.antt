@@ -1,5 +1,5 @@
--- A map lifted over the maps above it: its lines as the pieces that they have in common with those above, so that one search translates through
--- several levels. Assumes nothing.
+-- What the code keeps beside a map, and is NOT to be believed: the map lifted over the maps above it, its lines as the pieces that they have in common
+-- with those above, so that one search translates through several levels. That it translates as they do is proved. Assumes nothing.
 use Prim.Native.Nat.{ℕ, _+_, _-_, min, max}
 use mathlib.Core.Bool.{cond}
 use mathlib.Core.List.{List, [], _∷_, _++_, map}

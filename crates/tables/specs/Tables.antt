@@ -21,8 +21,8 @@ use Rattle.records.specs.Records.{processOf, freeProcess, namespaceOf, freeName
 pub record State : Type 0 where
   pub processes : List Process
   pub namespaces : List Namespace
-  -- the maps of each namespace once more, lifted over those above as far as their lines are not too many, so that one search translates through
-  -- several levels, most often through all
+  -- what the code keeps beside the maps: each once more, lifted over those above as far as its lines are not too many. Document 01 has no such thing, and
+  -- no definition reads it but those of hierarchy/specs/Lifted.antt, which are not to be believed
   pub liftedUsers : List Lifted
   pub liftedGroups : List Lifted
 
