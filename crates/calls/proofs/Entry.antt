@@ -26,38 +26,26 @@ use Rattle.calls.specs.declared.Call.{Call}
 use Rattle.calls.specs.declared.Call.the-variants.{Fork, Clone, Unshare, Setns, WriteMap, WriteSetgroups, ReadMap, ReadSetgroups, SetIds, SetGroups, Capable, Drop, OwnIdsOf, Translate}
 use Rattle.calls.specs.Calls.{Step, callReply, plainOf, resultOf, stored, asked, readBy, answerBy, CallPromise}
 
--- ---- an answer with nothing beside it
-plain-reply : (a : Answer) → callReply (plainOf a) ≡ replyOf a
-plain-reply (Refused e) = refl
-plain-reply Done = refl
-plain-reply (Child p) = refl
-plain-reply (ChildIn p n) = refl
-plain-reply (NewNamespace n) = refl
-plain-reply Yes = refl
-plain-reply No = refl
-plain-reply (Length n) = refl
-plain-reply (Id x) = refl
-plain-reply Unmapped = refl
-plain-reply Own = refl
-
--- ---- nothing else stands in a result
+-- ---- nothing else stands in a result than its reply lists
 abbrev Whole : OwnIds → Type 0
 Whole r = r ≡ resultOf (r .answer) (callReply r)
 
-plain-whole : (a : Answer) → Whole (plainOf a)
+-- an answer with nothing beside it
+plain-is : (a : Answer) → (callReply (plainOf a) ≡ replyOf a) × Whole (plainOf a)
 unfolding groupList
-plain-whole (Refused e) = refl
-plain-whole Done = refl
-plain-whole (Child p) = refl
-plain-whole (ChildIn p n) = refl
-plain-whole (NewNamespace n) = refl
-plain-whole Yes = refl
-plain-whole No = refl
-plain-whole (Length n) = refl
-plain-whole (Id x) = refl
-plain-whole Unmapped = refl
-plain-whole Own = refl
+plain-is (Refused e) = (refl, refl)
+plain-is Done = (refl, refl)
+plain-is (Child p) = (refl, refl)
+plain-is (ChildIn p n) = (refl, refl)
+plain-is (NewNamespace n) = (refl, refl)
+plain-is Yes = (refl, refl)
+plain-is No = (refl, refl)
+plain-is (Length n) = (refl, refl)
+plain-is (Id x) = (refl, refl)
+plain-is Unmapped = (refl, refl)
+plain-is Own = (refl, refl)
 
+-- own IDs
 groups-whole : (xs : List ℕ) → groupList xs ≡ groupList (take (groupList xs .count) (groupList xs .ids))
 unfolding groupList
 groups-whole xs = ap groupList (sym (take-append-seam xs (replicate (16 - length xs) 0)))
@@ -82,10 +70,10 @@ promises r l l′ b step o w k = record { outcome = o; whole = w ∙ ap (λ (x :
 
 module _ (r : OwnIds) (a : Answer) (e : r ≡ plainOf a) (l : List ℕ) where
   reply-is : callReply r ≡ replyOf a
-  reply-is = ap callReply e ∙ plain-reply a
+  reply-is = ap callReply e ∙ plain-is a .0
 
   whole : Whole r
-  whole = subst Whole (sym e) (plain-whole a)
+  whole = subst Whole (sym e) (plain-is a .1)
 
   -- a call that may store
   stores : (l′ b : List ℕ) (o : Outcome) (step : Step) → Promise a l l′ o → step ≡ stored o b → CallPromise r l l′ b step

@@ -10,7 +10,7 @@ use borrow.Author.Tests.{eqb-true}
 use Rattle.idmap.specs.declared.Line.{Line}
 use Rattle.lifted_map.specs.Lift.{Lifted}
 use Rattle.records.specs.declared.Kind.{Kind}
-use Rattle.records.specs.declared.Kind.the-variants.{User, Group}
+use Rattle.records.specs.declared.Kind.the-variants.{Group}
 use Rattle.records.specs.declared.Process.{Process}
 use Rattle.records.specs.declared.Namespace.{Namespace}
 use Rattle.records.specs.declared.MapState.{MapState}

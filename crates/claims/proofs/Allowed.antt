@@ -3,7 +3,7 @@ use Prim.Native.Nat.{ℕ, zero, suc, _+_, _≤_, _<_, _^_}
 use mathlib.Core.Path.{_≡_, refl}
 use mathlib.Core.Bool.{true, false}
 use mathlib.Core.List.{List, [], _∷_}
-use mathlib.Core.Option.{none, some}
+use mathlib.Core.Option.{none}
 use native.Mathlib.Nat.{not-suc-le-zero}
 use native.Mathlib.Omega.{arith}
 use lib.Dec.{eqb}
@@ -22,7 +22,7 @@ use Rattle.prelude.proofs.Tests.{by-test}
 use Rattle.claims.specs.Events.{Event, other, forked, cloned, unshared, joined, mapped, changed, grouped}
 use Rattle.claims.specs.Words.{isProcess, isNamespace, placeOf, parentOf, levelOf, mapOf, orNone, linesOf, standsFor, chosenOf, heldOf}
 use Rattle.claims.specs.TopLevel.{IsUnder, OnParentSide}
-use Rattle.claims.proofs.Sound.{Sound, moves, begins, makes, writes}
+use Rattle.claims.proofs.Sound.{Sound, some-none, moves, begins, makes, writes}
 
 -- caller c got child q
 pub record NewProcess (h : List Event) (c q : ℕ) : Type 0 where
@@ -96,9 +96,6 @@ root-covered z (x, p) = in-first (p .which) (p .offset) (p .in-range) (p .below-
     in-first : (i o : ℕ) → i < 1 → o < getD (fixedLine ∷ []) i noLine .count → z ≡ getD (fixedLine ∷ []) i noLine .parent + o → HasLine (fixedLine ∷ []) z
     in-first zero o r b e = (0, omega arith, (omega arith, omega arith))
     in-first (suc i) o r b e = absurd (omega arith)
-
-some-none : {A : Type 0} {x : A} → some x ≡ none → ⊥
-some-none e = let z : _≡_ {A = ℕ} 0 1 = cc in omega arith
 
 sound-start : SoundAt []
 unfolding isProcess isNamespace placeOf parentOf levelOf mapOf goodOf boundedOf fitsOf allApart

@@ -32,7 +32,7 @@ use Rattle.claims.specs.Words.{Held, isNamespace, parentOf, levelOf, map
 use Rattle.claims.specs.TopLevel.{OnParentSide, Has}
 use Rattle.claims.specs.History.{run, history, events, AllFit}
 use Rattle.claims.specs.Bounds.{HoldsCapability, member, inherited, owner, linesAt, Bounds}
-use Rattle.claims.specs.Agreement.{heldIn, stateFor, Agreed}
+use Rattle.claims.specs.Agreement.{stateFor, Agreed}
 use Rattle.claims.proofs.Sound.{Counted}
 use Rattle.claims.proofs.Allowed.{SoundAt, sound}
 use Rattle.claims.proofs.Carried.{held-small, few-groups}

@@ -4,7 +4,6 @@ use mathlib.Core.Path.{_≡_, refl, sym, ap, _∙_, subst}
 use mathlib.Core.Bool.{Bool, true, false, cond, _&&_}
 use mathlib.Core.List.{List, [], _∷_, map}
 use mathlib.Core.Option.{Option, none, some}
-use native.Mathlib.Omega.{arith}
 use lib.Dec.{eqb}
 use lib.ListN.{length, take, replicate}
 use lib.Seq.{take-append-seam}
@@ -25,17 +24,17 @@ use Rattle.tables.specs.Find.{processNamed}
 use Rattle.hierarchy.specs.Walks.{Translation}
 use Rattle.credentials.specs.Calls.{chosen, withUsers, withGroups, withIds, setIdsOf, toOption, groupList, withList, kernelGroups, setGroupsOf, withSets, dropOf}
 use Rattle.calls.specs.declared.Call.the-variants.{SetIds, SetGroups, Drop}
-use Rattle.claims.specs.Events.{Event, other, changed, grouped}
+use Rattle.claims.specs.Events.{Event, changed, grouped}
 use Rattle.claims.specs.Words.{Held, isProcess, isNamespace, placeOf, parentOf, levelOf, mapOf, heldOf, standsFor, chosenOf, changedIds, sameKind}
 use Rattle.claims.specs.History.{AllSmall}
 use Rattle.claims.specs.Agreement.{moreIn, heldIn, Agreed}
 use Rattle.claims.specs.LiftedMaps.{liftOf}
 use Rattle.claims.proofs.Beside.{Beside, keeps-lifted}
-use Rattle.claims.proofs.Allowed.{SoundAt, AllStand}
+use Rattle.claims.proofs.Allowed.{AllStand}
 use Rattle.claims.proofs.Stores.{cond-ap, named, process-in-range, same-number}
 use Rattle.claims.proofs.Agree.{picked-same, stores-process, keeps-process, caller-is, caller-live, caller-place, caller-ids}
 use Rattle.claims.proofs.Translating.{byHistory}
-use Rattle.claims.proofs.Sound.{same-kind}
+use Rattle.claims.proofs.Sound.{some-none, same-kind}
 use Rattle.prelude.proofs.Tests.{by-test, and-right}
 use Rattle.claims.proofs.Steps.{Next, nothing-happened, After}
 use Rattle.claims.proofs.Cases.{set-ids-case, set-groups-case, drop-case}
@@ -75,17 +74,14 @@ sets-ids User p permitted effective = refl
 sets-ids Group p permitted effective = refl
 
 -- ---- the groups of a list, each mapped
-no-some : {A : Type 0} {x : A} → none ≡ some x → ⊥
-no-some e = let z : _≡_ {A = ℕ} 0 1 = cc in omega arith
-
 option-id : (t : Translated) (y : ℕ) → toOption t ≡ some y → t ≡ Id y
 option-id (Id x) y e = let f : x ≡ y = cc in ap Id f
-option-id Unmapped y e = absurd (no-some e)
+option-id Unmapped y e = absurd (some-none (sym e))
 
 cons-some : (o : Option ℕ) (r : Option (List ℕ)) (l : List ℕ) → consOf o r ≡ some l → (y : ℕ) × (ys : List ℕ) × (o ≡ some y) × (r ≡ some ys) × (l ≡ y ∷ ys)
 unfolding consOf
-cons-some none r l e = absurd (no-some e)
-cons-some (some y) none l e = absurd (no-some e)
+cons-some none r l e = absurd (some-none (sym e))
+cons-some (some y) none l e = absurd (some-none (sym e))
 cons-some (some y) (some ys) l e = (y, ys, refl, refl, cc)
 
 groups-are : (g : ℕ → Translated) (list l : List ℕ) → allOf (λ (x : ℕ). toOption (g x)) list ≡ some l → l ≡ map (λ (x : ℕ). orNoId (g x)) list

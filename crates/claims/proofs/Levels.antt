@@ -10,7 +10,7 @@ use borrow.Author.Tests.{eq-eqb, ne-eqb, eqb-true, eqb-false}
 use Rattle.idmap.specs.declared.Line.{Line}
 use Rattle.idmap.specs.declared.Translated.{Translated}
 use Rattle.idmap.specs.declared.Translated.the-variants.{Id, Unmapped}
-use Rattle.idmap.specs.Lookup.{out, back}
+use Rattle.idmap.specs.Lookup.{out}
 use Rattle.idmap.specs.Good.{noId, goodOf}
 use Rattle.idmap.proofs.Translation.{two-answers}
 use Rattle.hierarchy.specs.Walks.{itself}

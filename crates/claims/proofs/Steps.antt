@@ -20,7 +20,6 @@ use Rattle.tables.specs.Tables.{State, processAt, namespaceAt, putProcess, putN
 use Rattle.tables.specs.Find.{processNamed, namespaceNamed, freeProcessPlace, freeNamespacePlace}
 use Rattle.tables.specs.Reply.{Outcome}
 use Rattle.hierarchy.specs.Walks.{Translation, heightOf, ownedBy, holdsIn, capableIn}
-use Rattle.capability.specs.Sets.{holds}
 use Rattle.process.specs.Calls.{sysAdmin, forkOf, below, entered, withChild, cloneOf, unshareOf, setnsOf}
 use Rattle.calls.specs.declared.Call.{Call}
 use Rattle.calls.specs.declared.Call.the-variants.{Fork, Clone, Unshare, Setns}

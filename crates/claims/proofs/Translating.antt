@@ -3,7 +3,7 @@ use Prim.Native.Nat.{ℕ, zero, suc, _<_, _%_, _^_}
 use mathlib.Core.Path.{_≡_, refl, sym, ap, _∙_}
 use mathlib.Core.Bool.{true, cond}
 use mathlib.Core.List.{List, [], _∷_, map}
-use mathlib.Core.Option.{none, some}
+use mathlib.Core.Option.{none}
 use native.Mathlib.Omega.{arith}
 use lib.Dec.{eqb}
 use borrow.Author.Tests.{eq-eqb, ne-eqb, eqb-true, eqb-false}
@@ -29,7 +29,7 @@ use Rattle.claims.specs.LiftedMaps.{liftOf}
 use Rattle.claims.proofs.Beside.{Beside}
 use Rattle.claims.proofs.Pairs.{back-pairs, parent-small}
 use Rattle.claims.proofs.Agree.{lines-of}
-use Rattle.claims.proofs.Sound.{deep}
+use Rattle.claims.proofs.Sound.{some-none, deep}
 use Rattle.claims.proofs.Levels.{by-translated, out-is, is-out, back-is, is-back, out-back, back-out, back-small}
 use Rattle.claims.proofs.Allowed.{Allowed, Valid, SoundAt, sound}
 use Rattle.claims.proofs.Lifting.{Lifts, parented, written, lift-falls, out-lifted, lifted-out}
@@ -38,15 +38,12 @@ use Rattle.claims.proofs.Lifting.{Lifts, parented, written, lift-falls,
 abbrev pub LiftsAt : List Event → Type 0
 LiftsAt h = Lifts (parentOf h) (λ (k : Kind). mapOf k h) (λ (k : Kind). liftOf k h)
 
-some-none : {A : Type 0} (x : A) → some x ≡ none → ⊥
-some-none x e = let z : _≡_ {A = ℕ} 0 1 = cc in omega arith
-
 lifts-start : LiftsAt []
 unfolding parentOf mapOf liftOf goodOf boundedOf fitsOf allApart
 lifts-start = record {
   root = λ k. refl;
   good = λ k n. by-test (eqb n 0) (λ t. rw t) (λ t. rw t);
-  unwritten = λ k n e. by-test (eqb n 0) (λ t. absurd (some-none (fixedLine ∷ []) (sym (rw t) ∙ e))) (λ t. rw t);
+  unwritten = λ k n e. by-test (eqb n 0) (λ t. absurd (some-none {x = fixedLine ∷ []} (sym (rw t) ∙ e))) (λ t. rw t);
   above = λ k n z f. absurd (f (rw (ne-eqb n 0 z)));
   step = λ k n z f. absurd (f (rw (ne-eqb n 0 z)));
 }

@@ -42,7 +42,7 @@ pub record Bounds (rs : List Request) : Type 0 where
   -- the walk is the three rules
   pub walk : (i n c : ℕ) → processAt (run rs) i .live ≡ true → namespaceAt (run rs) n .live ≡ true
       → (capableIn (run rs) (processAt (run rs) i) n c ≡ true) ↔ HoldsCapability (run rs) (processAt (run rs) i) c n
-  -- translation is the level by level one
+  -- translation gives an ID exactly where the relations over the history's parents and maps do
   pub out : (k : Kind) (n x y : ℕ) → x < 2 ^ 32 → (byLevels (run rs) .out k n x ≡ Id y) ↔ OutOf k (events (history rs)) n x y
   pub back : (k : Kind) (n y x : ℕ) → y < 2 ^ 32 → (byLevels (run rs) .back k n y ≡ Id x) ↔ BackOf k (events (history rs)) n y x
   -- every live record is in range, and what it names is live

@@ -17,7 +17,7 @@ use Rattle.records.specs.declared.MapState.the-variants.{Unwritten, Written}
 use Rattle.records.specs.declared.IdMap.{IdMap}
 use Rattle.records.specs.declared.Namespace.{Namespace}
 use Rattle.records.specs.Records.{freeNamespace, freeProcess, linesOf}
-use Rattle.tables.specs.Tables.{State, initialTables, firstProcess, rootNamespace, noLift}
+use Rattle.tables.specs.Tables.{State, firstProcess, rootNamespace, noLift}
 use Rattle.tables.specs.Reply.{Reply, refused, done, child, newNamespace, yes′, no′, bytes, id, unmapped}
 use Rattle.credentials.specs.declared.translate.Way.the-variants.{Out}
 use Rattle.calls.specs.declared.Call.{Call}

@@ -1,10 +1,9 @@
 -- The written lines of a namespace's map, and its lifted map, where they stand in the tables. Assumes nothing.
-use Prim.Native.Nat.{ℕ, zero, suc, _+_, _-_, _*_, _≤_, _<_}
+use Prim.Native.Nat.{ℕ, _+_, _-_, _*_, _≤_, _<_}
 use mathlib.Core.Path.{_≡_, refl, sym, ap, _∙_}
-use mathlib.Core.List.{List, [], _∷_}
+use mathlib.Core.List.{List, []}
 use native.Mathlib.Omega.{arith}
 use lib.ListN.{length, take, drop}
-use lib.Seq.{drop-drop, take-take, take-nil}
 use borrow.Author.Needs.{needs}
 use Rattle.prelude.specs.Parts.{part}
 use Rattle.prelude.proofs.Parts.{length-part, part-part}
