@@ -17,6 +17,7 @@ pub mod IdSteps
 pub mod Start
 pub mod Theorem
 pub mod AsDocument
+pub mod Unread
 pub mod Bounds
 pub mod Exported
 pub mod Executes

@@ -1,10 +1,11 @@
--- The code translates by lifted maps, document 01 level by level: on tables that a list of calls leaves it is one. `as-document` of
--- proofs/AsDocument.antt proves it of every list. Assumes nothing.
+-- What the code keeps for speed does not show. It translates by lifted maps, document 01 level by level: on tables that a list of calls leaves it is one,
+-- which `as-document` of proofs/AsDocument.antt proves of every list. And document 01's step reads no lifted map: `unread` of proofs/Unread.antt.
+-- Assumes nothing.
 use mathlib.Core.Path.{_≡_}
 use mathlib.Core.List.{List, []}
-use Rattle.tables.specs.Tables.{initialTables}
+use Rattle.tables.specs.Tables.{State, initialTables}
 use Rattle.hierarchy.specs.Lifted.{byLiftedMaps}
-use Rattle.calls.specs.Calls.{Request}
+use Rattle.calls.specs.Calls.{Request, Step}
 use Rattle.claims.specs.Translation.{byLevels}
 use Rattle.claims.specs.History.{stepOf, runFrom, historyFrom, run, history}
 
@@ -16,3 +17,15 @@ pub record AsDocument (rs : List Request) : Type 0 where
   -- and the whole run with its history
   pub tables : runFrom byLiftedMaps initialTables rs ≡ run rs
   pub told : historyFrom byLiftedMaps initialTables [] rs ≡ history rs
+
+-- ---- of any tables
+-- what stands in them but for what the code keeps beside the maps
+abbrev pub bare : State → State
+bare s = record { processes = s .processes; namespaces = s .namespaces; liftedUsers = []; liftedGroups = [] }
+
+abbrev pub bareStep : Step → Step
+bareStep o = record { reply = o .reply; tables = bare (o .tables); buffer = o .buffer }
+
+-- what a call answers, and what it leaves but for that, is the same where nothing was kept
+abbrev pub Unread : State → Request → Type 0
+Unread s r = bareStep (stepOf byLevels s r) ≡ bareStep (stepOf byLevels (bare s) r)
