@@ -13,8 +13,7 @@ use Rattle.idmap.specs.Cover.{coveredIn, coveredOf}
 use Rattle.idmap.specs.Text.{pieces, filled, consOf, allOf, allDigits, decimal, numberOf, numbersOf, threeOf, lineOf, textLines, checked, mapLines}
 use Rattle.idmap.specs.Text.{padded}
 use Rattle.idmap.specs.Show.{shown, numberText, lineColumns, lineText, linesText}
-use Rattle.lifted_map.specs.Lift.{commonOf, piecesOf, withIds, composedOf, liftedOf}
-use Rattle.tables.specs.Tables.{processAt, namespaceAt, liftedAt, firstLiftedMaps, initialTables}
+use Rattle.tables.specs.Tables.{processAt, namespaceAt, initialTables}
 use Rattle.tables.specs.Find.{processNamed, namespaceNamed, freeFrom, freeProcessPlace, freeNamespacePlace}
 use Rattle.hierarchy.specs.Walks.{heightOf, ownedBy, holdsIn, capableIn}
 use Rattle.process.specs.Calls.{forkOf, knowsItself, below, entered, cloneOf, unshareOf, setnsOf}
@@ -51,10 +50,10 @@ overlapping-events = mapped User 3 (bytesOf "0 100005 10") ∷ mapped User 2 (by
 
 -- the histories say what happened, the newest first
 happened-so : (events (history entering) ≡ entered-events) × (events (history overlapping) ≡ overlapping-events)
-unfolding fitsAt putAt holds out reachOf fitsOf boundedOf apartSide apartOf allApart goodOf coveredIn coveredOf commonOf piecesOf withIds composedOf liftedOf
+unfolding fitsAt putAt holds out reachOf fitsOf boundedOf apartSide apartOf allApart goodOf coveredIn coveredOf
     pieces filled consOf allOf allDigits decimal numberOf numbersOf threeOf lineOf textLines checked mapLines padded
     shown numberText lineColumns lineText linesText
-    processAt namespaceAt liftedAt firstLiftedMaps initialTables processNamed namespaceNamed freeFrom freeProcessPlace freeNamespacePlace
+    processAt namespaceAt initialTables processNamed namespaceNamed freeFrom freeProcessPlace freeNamespacePlace
     heightOf byLevels outBy backBy ownedBy holdsIn capableIn
     forkOf knowsItself below entered unshareOf
     isNear singleLine mayMap allCovered withMap mappedTables writeLinesTo writeMapTo writeMapOf

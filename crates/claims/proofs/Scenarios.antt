@@ -9,8 +9,7 @@ use Rattle.idmap.specs.Cover.{coveredIn, coveredOf}
 use Rattle.idmap.specs.Text.{pieces, filled, consOf, allOf, allDigits, decimal, numberOf, numbersOf, threeOf, lineOf, textLines, checked, mapLines}
 use Rattle.idmap.specs.Text.{padded}
 use Rattle.idmap.specs.Show.{shown, numberText, lineColumns, lineText, linesText}
-use Rattle.lifted_map.specs.Lift.{commonOf, piecesOf, withIds, composedOf, liftedOf}
-use Rattle.tables.specs.Tables.{processAt, namespaceAt, liftedAt, firstLiftedMaps, initialTables}
+use Rattle.tables.specs.Tables.{processAt, namespaceAt, initialTables}
 use Rattle.tables.specs.Find.{processNamed, namespaceNamed, freeFrom, freeProcessPlace, freeNamespacePlace}
 use Rattle.hierarchy.specs.Walks.{heightOf, ownedBy, holdsIn, capableIn}
 use Rattle.process.specs.Calls.{forkOf, knowsItself, below, entered, unshareOf}
@@ -30,10 +29,10 @@ each [] e = tt
 each (c ∷ cs) e = (head-eq-of-cons-eq e, each cs (tail-eq-of-cons-eq e))
 
 pub scenarios-come-out : AllComeOut
-unfolding fitsAt putAt holds out reachOf fitsOf boundedOf apartSide apartOf allApart goodOf coveredIn coveredOf commonOf piecesOf withIds composedOf liftedOf
+unfolding fitsAt putAt holds out reachOf fitsOf boundedOf apartSide apartOf allApart goodOf coveredIn coveredOf
     pieces filled consOf allOf allDigits decimal numberOf numbersOf threeOf lineOf textLines checked mapLines padded
     shown numberText lineColumns lineText linesText
-    processAt namespaceAt liftedAt firstLiftedMaps initialTables processNamed namespaceNamed freeFrom freeProcessPlace freeNamespacePlace
+    processAt namespaceAt initialTables processNamed namespaceNamed freeFrom freeProcessPlace freeNamespacePlace
     heightOf byLevels outBy backBy ownedBy holdsIn capableIn
     forkOf knowsItself below entered unshareOf
     isNear singleLine mayMap allCovered withMap mappedTables writeLinesTo writeMapTo writeMapOf

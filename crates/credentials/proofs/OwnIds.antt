@@ -54,29 +54,35 @@ module _ (s : State) (kind : Kind) (ls : List Line) (b n : ℕ) (lines : ls ≡ 
 -- ---- all group IDs at once
 module _ (s : State) (n : ℕ) (three : Ids) (g : GroupList) (given found : List ℕ) (seen-list : GroupList) (long : length (g .ids) ≡ 16) (read : given ≡ ownBatch (g .ids) three)
     (seen-all : found ≡ fromKernelEach s Group n 65534 given) where
-  -- those of the list, and then the three
-  found-is : found ≡ map (seen (byLiftedMaps s) Group n) (g .ids) ++ (seen (byLiftedMaps s) Group n (three .real) ∷ seen (byLiftedMaps s) Group n (three .effective) ∷ seen (byLiftedMaps s) Group n (three .saved) ∷ seen (byLiftedMaps s) Group n 0 ∷ [])
-  unfolding byLiftedMaps eachBy ownBatch
-  found-is = seen-all ∙ rw (read, map-append (seen (byLiftedMaps s) Group n) (g .ids) (three .real ∷ three .effective ∷ three .saved ∷ 0 ∷ []))
+  -- a group ID as the namespace sees it
+  abbrev shown : ℕ → ℕ
+  shown = seen (byLiftedMaps s) Group n
 
-  many : length (map (seen (byLiftedMaps s) Group n) (g .ids)) ≡ 16
-  many = length-map (g .ids) (seen (byLiftedMaps s) Group n) ∙ long
+  -- the three, and what fills the batch
+  abbrev own : List ℕ
+  own = shown (three .real) ∷ shown (three .effective) ∷ shown (three .saved) ∷ shown 0 ∷ []
+
+  -- those of the list stand first
+  found-is : found ≡ map shown (g .ids) ++ own
+  unfolding byLiftedMaps eachBy ownBatch
+  found-is = seen-all ∙ rw (read, map-append shown (g .ids) (three .real ∷ three .effective ∷ three .saved ∷ 0 ∷ []))
+
+  many : length (map shown (g .ids)) ≡ 16
+  many = length-map (g .ids) shown ∙ long
 
   -- the one at place 16 + k
-  own-at : (k : ℕ) → getD found (16 + k) 0 ≡ getD (seen (byLiftedMaps s) Group n (three .real) ∷ seen (byLiftedMaps s) Group n (three .effective) ∷ seen (byLiftedMaps s) Group n (three .saved) ∷ seen (byLiftedMaps s) Group n 0 ∷ []) k 0
+  own-at : (k : ℕ) → getD found (16 + k) 0 ≡ getD own k 0
   own-at k =
-      let l = map (seen (byLiftedMaps s) Group n) (g .ids) in
-      let rest = seen (byLiftedMaps s) Group n (three .real) ∷ seen (byLiftedMaps s) Group n (three .effective) ∷ seen (byLiftedMaps s) Group n (three .saved) ∷ seen (byLiftedMaps s) Group n 0 ∷ [] in
-      ap (λ (xs : List ℕ). getD xs (16 + k) 0) found-is ∙ ap (λ (m : ℕ). getD (l ++ rest) (m + k) 0) (sym many) ∙ getD-append-add l rest k 0
+      let l = map shown (g .ids) in
+      ap (λ (xs : List ℕ). getD xs (16 + k) 0) found-is ∙ ap (λ (m : ℕ). getD (l ++ own) (m + k) 0) (sym many) ∙ getD-append-add l own k 0
 
-  list-is : take (min (g .count) 16) found ≡ map (seen (byLiftedMaps s) Group n) (take (g .count) (g .ids))
+  list-is : take (min (g .count) 16) found ≡ map shown (take (g .count) (g .ids))
   list-is =
-      let l = map (seen (byLiftedMaps s) Group n) (g .ids) in
       let m : min (g .count) 16 ≡ min (g .count) (length (g .ids)) = ap (min (g .count)) (sym long) in
       ap (take (min (g .count) 16)) found-is
-      ∙ take-append-le (min (g .count) 16) l _ (omega (arith, many))
-      ∙ take-map (seen (byLiftedMaps s) Group n) (min (g .count) 16) (g .ids)
-      ∙ ap (map (seen (byLiftedMaps s) Group n)) (ap (λ (k : ℕ). take k (g .ids)) m ∙ sym (take-min (g .count) (g .ids)))
+      ∙ take-append-le (min (g .count) 16) (map shown (g .ids)) _ (omega (arith, many))
+      ∙ take-map shown (min (g .count) 16) (g .ids)
+      ∙ ap (map shown) (ap (λ (k : ℕ). take k (g .ids)) m ∙ sym (take-min (g .count) (g .ids)))
 
   pub groups-seen : seen-list ≡ groupList (take (min (g .count) 16) found)
       → _≡_ {A = Groups} (record { three = record { real = getD found 16 0; effective = getD found 17 0; saved = getD found 18 0 }; list = seen-list })
