@@ -1,13 +1,21 @@
 -- What each exported function promises is a step of document 01's calls, of which it tells the number. Assumes nothing.
-use Prim.Native.Nat.{ℕ, _-_}
+use Prim.Native.Nat.{ℕ, suc, _+_, _-_, _*_, _≤_}
 use mathlib.Core.Path.{_≡_, refl, ap, _∙_}
 use mathlib.Core.Bool.{cond}
-use mathlib.Core.List.{List}
+use mathlib.Core.List.{List, _++_, map}
 use native.Mathlib.Omega.{arith}
-use lib.ListN.{length, replicate}
+use lib.Dec.{ltb}
+use lib.ListN.{length, take, replicate, length-append, length-take, length-map, length-replicate}
 use lib.Seq.{take-append-seam}
+use borrow.Author.Tests.{ltb-true, ltb-false}
+use Rattle.prelude.specs.Parts.{putAt}
+use Rattle.prelude.proofs.Tests.{by-test}
+use Rattle.rows.proofs.Lists.{tab-all}
+use Rattle.rows.proofs.Rows.{row-get, row-none}
 use Rattle.records.specs.declared.Kind.the-variants.{User, Group}
 use Rattle.records.specs.declared.Ids.{Ids}
+use Rattle.records.specs.declared.Process.{Process}
+use Rattle.records.specs.Records.{processOf, freeProcess}
 use Rattle.tables.specs.Tables.{State, tablesOf, processAt}
 use Rattle.tables.specs.Find.{processNamed}
 use Rattle.tables.specs.Reply.{Reply, replyOf, Outcome}
@@ -15,12 +23,12 @@ use Rattle.hierarchy.specs.Walks.{Translation}
 use Rattle.hierarchy.specs.Lifted.{quick}
 use Rattle.mapping.specs.Calls.{ReadOutcome}
 use Rattle.credentials.specs.declared.own.OwnIds.{OwnIds}
-use Rattle.credentials.specs.Calls.{groupList, seenIds, seenGroups, ownIdsOf}
+use Rattle.credentials.specs.Calls.{groupList, seen, seenIds, seenGroups, ownIdsOf}
 use Rattle.calls.specs.declared.Call.{Call}
 use Rattle.calls.specs.declared.Call.the-variants.{Fork, Clone, Unshare, Setns, WriteMap, WriteSetgroups, ReadMap, ReadSetgroups, SetIds, SetGroups, Capable, Drop, OwnIdsOf, Translate}
 use Rattle.calls.specs.Calls.{idsList, stored, asked, readBy, callReply, answerBy}
-use Rattle.exports.specs.Codes.{codeOf, isOwn}
-use Rattle.claims.specs.Execution.{Stores, Reads, Asks, Tells, ExportPromise, Numbered}
+use Rattle.exports.specs.Codes.{codeOf, idsRow, isOwn, CodedIds}
+use Rattle.claims.specs.Execution.{Stores, Reads, Asks, Tells, ExportPromise, Numbered, wordsAfter}
 use Rattle.claims.proofs.Cases.{found-case}
 
 -- own IDs: the number of groups is told, or the refusal
@@ -36,6 +44,37 @@ unfolding ownIdsOf seenGroups
 own-code by s c =
     found-case OwnCode (processNamed s c) refl (λ i e.
     groups-code (seenIds by User (processAt s i .namespace) (processAt s i .users)) (seenIds by Group (processAt s i .namespace) (processAt s i .groups)) _)
+
+-- their words are those of the reply
+own-row : (u g : Ids) (xs : List ℕ) → length xs ≤ 16 → idsRow u g (groupList xs) ≡ idsList u g (groupList xs) ++ replicate (22 - length (idsList u g (groupList xs))) 0
+unfolding groupList
+own-row u g xs h =
+    let zeros : List ℕ = replicate (16 - length xs) 0 in
+    let seam = take-append-seam xs zeros in
+    let all = tab-all (xs ++ zeros) 0 16 (simp (length-append, length-replicate) (omega arith)) in
+    let left : 22 - suc (suc (suc (suc (suc (suc (length xs)))))) ≡ 16 - length xs = omega arith in
+    rw (all, seam, left)
+
+-- a process's record has 16 places for groups
+groups-long : (l : List ℕ) (i : ℕ) → length (processAt (tablesOf l) i .supplementary .ids) ≡ 16
+unfolding processAt tablesOf
+groups-long l i =
+    by-test (ltb i 128)
+    (λ t. ap (λ (p : Process). length (p .supplementary .ids)) (row-get processOf 27 128 0 l i freeProcess (0 + i * 27) refl (ltb-true i 128 t)))
+    (λ t. ap (λ (p : Process). length (p .supplementary .ids)) (row-none processOf 27 128 0 l i freeProcess (ltb-false i 128 t)))
+
+abbrev OwnWords : List ℕ → OwnIds → Type 0
+OwnWords words own = cond (isOwn (own .answer)) (putAt words 0 (idsRow (own .users) (own .groups) (own .supplementary))) words ≡ wordsAfter (callReply own) words
+
+pub exported-words : (by : Translation) (l : List ℕ) (c code : ℕ) (words words′ : List ℕ) → CodedIds code words words′ (ownIdsOf by (tablesOf l) c) → words′ ≡ wordsAfter (callReply (ownIdsOf by (tablesOf l) c)) words
+unfolding ownIdsOf seenGroups
+exported-words by l c code words words′ p =
+    p .words
+    ∙ found-case (OwnWords words) (processNamed (tablesOf l) c) refl (λ i e.
+    let p = processAt (tablesOf l) i in
+    let xs = map (seen by Group (p .namespace)) (take (p .supplementary .count) (p .supplementary .ids)) in
+    let few : length xs ≤ 16 = let h = groups-long l i in simp (length-map, length-take) (omega arith) in
+    ap (putAt words 0) (own-row (seenIds by User (p .namespace) (p .users)) (seenIds by Group (p .namespace) (p .groups)) xs few))
 
 module _ (code : ℕ) (entry exit before after : List ℕ) where
   -- a promise `Coded`

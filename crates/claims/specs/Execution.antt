@@ -1,9 +1,11 @@
 -- What a host has and sees that keeps its tables by this code alone, call after call, through the entry point or through exported functions: document
 -- 01's run of these calls. `executes` of proofs/Executes.antt proves it. Assumes nothing.
-use Prim.Native.Nat.{ℕ}
+use Prim.Native.Nat.{ℕ, _-_}
 use mathlib.Core.Path.{_≡_}
-use mathlib.Core.Bool.{true}
+use mathlib.Core.Bool.{true, cond}
 use mathlib.Core.List.{List, [], _∷_, _++_}
+use lib.ListN.{length, replicate}
+use Rattle.prelude.specs.Parts.{putAt}
 use Rattle.tables.specs.Tables.{tablesOf, initialTables}
 use Rattle.tables.specs.Reply.{Reply, Outcome, isRefused}
 use Rattle.hierarchy.specs.Lifted.{byLiftedMaps, quick}
@@ -13,7 +15,7 @@ use Rattle.credentials.specs.declared.own.OwnIds.{OwnIds}
 use Rattle.credentials.specs.Calls.{setIdsOf, setGroupsOf, capableReply, dropOf, ownIdsOf, translateReply}
 use Rattle.calls.specs.declared.Call.{Call}
 use Rattle.calls.specs.declared.Call.the-variants.{Fork, Clone, Unshare, Setns, WriteMap, WriteSetgroups, ReadMap, ReadSetgroups, SetIds, SetGroups, Capable, Drop, OwnIdsOf, Translate}
-use Rattle.calls.specs.Calls.{Request, Step, callReply, CallPromise}
+use Rattle.calls.specs.Calls.{Request, Step, callReply, listedIn, CallPromise}
 use Rattle.exports.specs.Codes.{codeOf, Coded, CodedRead, CodedIds}
 use Rattle.claims.specs.History.{Entry, stepOf, run, history, Fits}
 use Rattle.claims.specs.Holds.{Holds}
@@ -60,6 +62,11 @@ pub record Numbered (code : ℕ) (entry exit after : List ℕ) (step : Step) : T
   pub tables : tablesOf exit ≡ step .tables
   pub buffer : after ≡ step .buffer
   pub kept : isRefused (step .reply) ≡ true → exit ≡ entry
+
+-- what the own-ID question leaves in the 22 words that are lent to it: the IDs of its reply in order and 0 past them, or what was there where it refuses.
+-- `exported-words` of proofs/Exported.antt: the exported function promises it
+abbrev pub wordsAfter : Reply → List ℕ → List ℕ
+wordsAfter r words = cond (isRefused r) words (putAt words 0 (listedIn r ++ replicate (22 - length (listedIn r)) 0))
 
 -- ---- executions
 -- an array, and the calls that led to it with their answers, newest first
