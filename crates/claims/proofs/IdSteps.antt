@@ -42,18 +42,18 @@ use Rattle.claims.proofs.Cases.{set-ids-case, set-groups-case, drop-cas
 -- ---- a process with other IDs is as before otherwise
 ids-live : (by : Translation) (k : Kind) (p : Process) (new : Ids) → withIds by k p new .live ≡ p .live
 unfolding withUsers withGroups
-ids-live s User p new = refl
-ids-live s Group p new = refl
+ids-live by User p new = refl
+ids-live by Group p new = refl
 
 ids-place : (by : Translation) (k : Kind) (p : Process) (new : Ids) → withIds by k p new .namespace ≡ p .namespace
 unfolding withUsers withGroups
-ids-place s User p new = refl
-ids-place s Group p new = refl
+ids-place by User p new = refl
+ids-place by Group p new = refl
 
 ids-groups : (by : Translation) (k : Kind) (p : Process) (new : Ids) → withIds by k p new .supplementary ≡ p .supplementary
 unfolding withUsers withGroups
-ids-groups s User p new = refl
-ids-groups s Group p new = refl
+ids-groups by User p new = refl
+ids-groups by Group p new = refl
 
 -- as many groups, whatever a test picks
 same-more : (t : Bool) (three : Ids) (more : List ℕ) (m : Held) → (t ≡ true → more ≡ m .more) → length (cond t (record { three = three; more = more }) m .more) ≡ length (m .more)
@@ -63,10 +63,10 @@ same-more false three more m e = refl
 -- what it carries: the new IDs of that kind
 ids-held : (j k : Kind) (by : Translation) (p : Process) (new : Ids) → heldIn j (withIds by k p new) ≡ cond (sameKind j k) (record { three = new; more = moreIn j p }) (heldIn j p)
 unfolding withUsers withGroups
-ids-held User User s p new = refl
-ids-held User Group s p new = refl
-ids-held Group User s p new = refl
-ids-held Group Group s p new = refl
+ids-held User User by p new = refl
+ids-held User Group by p new = refl
+ids-held Group User by p new = refl
+ids-held Group Group by p new = refl
 
 sets-ids : (k : Kind) (p : Process) (permitted effective : ℕ) → heldIn k (withSets p permitted effective) ≡ heldIn k p
 unfolding withSets
