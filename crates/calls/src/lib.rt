@@ -50,7 +50,7 @@ fn plain(answer: Answer) -> OwnIds
 }
 
 // Answers a call: the promise is by cases the calls' own.
-// Ruled out, for instance: IDs beside an answer that has none; unshare's answer to a clone.
+// Ruled out, for instance: IDs beside an answer that has none; a clone made where unshare is asked for.
 pub fn answer(t: &mut Tables, c: Call, text: &[u8], list: &[u32], buffer: &mut [u8]) -> OwnIds
     ensures { λ r. ⌜ CallPromise r (now (t .entry)) (now (t .exit)) (now (buffer .exit)) (quick answerBy (tablesOf (now (t .entry))) c (now (text .entry)) (now (list .entry)) (now (buffer .entry))) ⌝ }
 {

@@ -23,7 +23,7 @@ use Rattle.tables.specs.Tables.{State, processAt, namespaceAt, putProcess, putN
 use Rattle.tables.specs.Find.{processNamed}
 use Rattle.prelude.proofs.Tests.{by-test}
 use Rattle.claims.specs.Events.{Event}
-use Rattle.claims.specs.Words.{Held, isProcess, placeOf, orNone, heldOf}
+use Rattle.claims.specs.Words.{Held, isProcess, placeOf, orNone, linesOf, heldOf}
 use Rattle.claims.specs.Agreement.{heldIn, writtenIn, stateFor, Agrees, Agreed}
 use Rattle.claims.proofs.Stores.{cond-ap, read-process, read-namespace, named}
 
@@ -113,12 +113,15 @@ module _ (s : State) (isP isN : ℕ → Bool) (place up level : ℕ → ℕ) (ma
   }
 
 -- ---- a map's record has the lines of its history
-pub lines-of : (m : IdMap) → orNone (writtenIn m) ≡ mapLinesOf m
+lines-of : (m : IdMap) → orNone (writtenIn m) ≡ mapLinesOf m
 lines-of m = by-state (m .state) (m .lines)
   where
     by-state : (t : MapState) (ls : List Line) → orNone (Rattle.claims.specs.Agreement.linesIf t ls) ≡ Rattle.records.specs.Records.linesIf t ls
     by-state Unwritten ls = refl
     by-state (Written n) ls = refl
+
+pub lines-agree : (s : State) (h : List Event) → Agreed s h → (k : Kind) (n : ℕ) → mapLinesOf (mapIn k (namespaceAt s n)) ≡ linesOf k h n
+lines-agree s h a k n = sym (lines-of (mapIn k (namespaceAt s n))) ∙ ap orNone (a .namespace-map k n)
 
 -- ---- the caller of a call
 module _ (s : State) (h : List Event) (a : Agreed s h) (c i : ℕ) (e : processNamed s c ≡ At i) where

@@ -36,7 +36,7 @@ use Rattle.claims.specs.Agreement.{stateFor, Agreed}
 use Rattle.claims.proofs.Sound.{Counted}
 use Rattle.claims.proofs.Allowed.{SoundAt, sound}
 use Rattle.claims.proofs.Carried.{held-small, few-groups}
-use Rattle.claims.proofs.Agree.{lines-of}
+use Rattle.claims.proofs.Agree.{lines-agree}
 use Rattle.claims.proofs.Stores.{process-in-range, namespace-in-range}
 use Rattle.claims.proofs.Translating.{levels-history}
 use Rattle.claims.proofs.Theorem.{reached, by-history}
@@ -150,20 +150,17 @@ module _ (s : State) (h : List Event) (a : Agreed s h) (d : SoundAt h) where
         ((λ e. walk-rules (heightOf s n) n e), (λ r. rules-walk (heightOf s n) n t (let g = height-is n in omega arith) r))
 
   -- ---- what stands in the tables
-  lines-are : (k : Kind) (n : ℕ) → linesAt s k n ≡ linesOf k h n
-  lines-are k n = sym (lines-of (mapIn k (namespaceAt s n))) ∙ ap orNone (a .namespace-map k n)
-
   counts : (o : Option (List Line)) (c : ℕ) → Counted o → stateFor o ≡ Written c → (1 ≤ c) × (c ≤ maxLines) × (length (orNone o) ≡ c)
   counts none c b e = absurd (let z : _≡_ {A = ℕ} 0 1 = cc in omega arith)
   counts (some ls) c b e = let f : length ls ≡ c = cc in (omega (arith, b .0), omega (arith, b .1), f)
 
   line-counts : (k : Kind) (n c : ℕ) → mapIn k (namespaceAt s n) .state ≡ Written c → (1 ≤ c) × (c ≤ maxLines) × (length (linesAt s k n) ≡ c)
-  line-counts k n c e = rw (lines-are k n) (counts (mapOf k h n) c (d .counted k n) (sym (a .namespace-state k n) ∙ e))
+  line-counts k n c e = rw (lines-agree s h a k n) (counts (mapOf k h n) c (d .counted k n) (sym (a .namespace-state k n) ∙ e))
 
   has-line : (k : Kind) (n z : ℕ) → OnParentSide (linesAt s k n) z → HasLine (linesAt s k (namespaceAt s n .parent)) z
   has-line k n z o =
-      subst (λ (ls : List Line). HasLine ls z) (sym (lines-are k (namespaceAt s n .parent) ∙ ap (linesOf k h) (a .namespace-parent n)))
-      (d .covered k n z (subst (λ (ls : List Line). OnParentSide ls z) (lines-are k n) o))
+      subst (λ (ls : List Line). HasLine ls z) (sym (lines-agree s h a k (namespaceAt s n .parent) ∙ ap (linesOf k h) (a .namespace-parent n)))
+      (d .covered k n z (subst (λ (ls : List Line). OnParentSide ls z) (lines-agree s h a k n) o))
 
   unwritten-none : (o : Option (List Line)) → stateFor o ≡ Unwritten → o ≡ none
   unwritten-none none e = refl
@@ -198,7 +195,7 @@ bounds rs f =
       carried-ids = λ k i y q. held-small k h (r .valid) (suc i) y (subst (λ (m : Held). Has y (held m)) (a .process-ids k i) q);
       group-count = λ i. rw (a .process-count i) (few-groups h (r .valid) (suc i));
       line-count = line-counts s h a d;
-      lines-good = λ k n. rw (lines-are s h a d k n) (good-means (linesOf k h n) .0 (d .good k n));
+      lines-good = λ k n. rw (lines-agree s h a k n) (good-means (linesOf k h n) .0 (d .good k n));
       covered = has-line s h a d;
       unwritten = λ k n x e. translates-nothing s h a d k n x (unwritten-none s h a d (mapOf k h n) (sym (a .namespace-state k n) ∙ e));
     }

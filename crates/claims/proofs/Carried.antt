@@ -250,16 +250,16 @@ stands-small : (up : ℕ → ℕ) (lines : ℕ → List Line) (n x y : ℕ) → 
 stands-small up lines n x y (top e f b) = omega arith
 stands-small up lines n x y (through f z p o) = stands-small up lines (up n) z y o
 
-no-zero-big : (y : ℕ) → Has y (0 ∷ 0 ∷ 0 ∷ []) → y < noId
+zeros-small : (y : ℕ) → Has y (0 ∷ 0 ∷ 0 ∷ []) → y < noId
 unfolding Has
-no-zero-big y (inl e) = omega arith
-no-zero-big y (inr (inl e)) = omega arith
-no-zero-big y (inr (inr (inl e))) = omega arith
-no-zero-big y (inr (inr (inr i))) = absurd i
+zeros-small y (inl e) = omega arith
+zeros-small y (inr (inl e)) = omega arith
+zeros-small y (inr (inr (inl e))) = omega arith
+zeros-small y (inr (inr (inr i))) = absurd i
 
 pub held-small : (k : Kind) (h : List Event) → Valid h → (p y : ℕ) → Has y (held (heldOf k h p)) → y < noId
 unfolding Valid heldOf
-held-small k [] v p y i = no-zero-big y i
+held-small k [] v p y i = zeros-small y i
 held-small k (other ∷ h) v p y i = held-small k h (v .1) p y i
 held-small k (forked c q ∷ h) v p y i =
     by-test (eqb p q) (λ t. held-small k h (v .1) c y (rw t at i)) (λ t. held-small k h (v .1) p y (rw t at i))

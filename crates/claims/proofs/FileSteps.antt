@@ -40,7 +40,7 @@ use Rattle.claims.proofs.Beside.{Beside, keeps-lifted, stores-lifted}
 use Rattle.claims.proofs.Allowed.{SoundAt}
 use Rattle.claims.specs.TopLevel.{OnParentSide}
 use Rattle.claims.proofs.Stores.{cond-ap, namespace-in-range}
-use Rattle.claims.proofs.Agree.{picked-same, stores-namespace, keeps-tables, lines-of, caller-live, caller-place}
+use Rattle.claims.proofs.Agree.{picked-same, stores-namespace, keeps-tables, lines-agree, caller-live, caller-place}
 use Rattle.claims.proofs.Sound.{Counted, map-lines-good, map-lines-counted, same-kind}
 use Rattle.prelude.proofs.Tests.{by-test, and-left, and-right}
 use Rattle.claims.proofs.Steps.{Next, nothing-happened, After}
@@ -160,8 +160,7 @@ module _ (by : Translation) (s : State) (h : List Event) (a : Agreed s h) (b : B
     above-is : (k : Kind) → linesOf (mapIn k (namespaceAt s (namespaceAt s (processAt s p .namespace) .parent))) ≡ orNone (mapOf k h (parentOf h (placeOf h name)))
     above-is k =
         let u : namespaceAt s (processAt s p .namespace) .parent ≡ parentOf h (placeOf h name) = a .namespace-parent (processAt s p .namespace) ∙ ap (parentOf h) (caller-place s h a name p e) in
-        sym (lines-of (mapIn k (namespaceAt s (namespaceAt s (processAt s p .namespace) .parent))))
-        ∙ ap orNone (a .namespace-map k (namespaceAt s (processAt s p .namespace) .parent) ∙ ap (mapOf k h) u)
+        lines-agree s h a k (namespaceAt s (processAt s p .namespace) .parent) ∙ ap (λ (m : ℕ). orNone (mapOf k h m)) u
 
     mapped-next : (k : Kind) (ls : List Line) → mapLines text ≡ some ls → isWritten (mapIn k (namespaceAt s (processAt s p .namespace)) .state) ≡ false
         → allCovered (linesOf (mapIn k (namespaceAt s (namespaceAt s (processAt s p .namespace) .parent)))) ls ≡ true

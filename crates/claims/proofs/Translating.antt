@@ -15,20 +15,18 @@ use Rattle.idmap.specs.Good.{noId, goodOf, boundedOf, fitsOf, allApart}
 use Rattle.idmap.proofs.Translation.{two-answers}
 use Rattle.lifted_map.proofs.Composition.{out-low}
 use Rattle.records.specs.declared.Kind.{Kind}
-use Rattle.records.specs.Records.{mapIn}
-use Rattle.records.specs.Records.{linesOf as mapLinesOf}
-use Rattle.tables.specs.Tables.{State, namespaceAt, fixedLine}
+use Rattle.tables.specs.Tables.{State, fixedLine}
 use Rattle.hierarchy.specs.Walks.{Translation, heightOf, itself}
 use Rattle.hierarchy.specs.Lifted.{outIn, toKernelBy, toKernel, backIn, fromKernelBy, fromKernel, byLiftedMaps}
 use Rattle.prelude.proofs.Tests.{by-test}
 use Rattle.claims.specs.Translation.{byLevels, outBy, backBy}
 use Rattle.claims.specs.Events.{Event, other, forked, cloned, unshared, joined, mapped, changed, grouped}
-use Rattle.claims.specs.Words.{isNamespace, placeOf, parentOf, levelOf, mapOf, orNone, linesOf, standsFor}
+use Rattle.claims.specs.Words.{isNamespace, placeOf, parentOf, levelOf, mapOf, linesOf, standsFor}
 use Rattle.claims.specs.Agreement.{Agreed}
 use Rattle.claims.specs.LiftedMaps.{liftOf}
 use Rattle.claims.proofs.Beside.{Beside}
 use Rattle.claims.proofs.Pairs.{back-pairs, parent-small}
-use Rattle.claims.proofs.Agree.{lines-of}
+use Rattle.claims.proofs.Agree.{lines-agree}
 use Rattle.claims.proofs.Sound.{some-none, deep}
 use Rattle.claims.proofs.Levels.{by-translated, out-is, is-out, back-is, is-back, out-back, back-out, back-small}
 use Rattle.claims.proofs.Allowed.{Allowed, Valid, SoundAt, sound}
@@ -210,9 +208,6 @@ byHistory h = record {
 }
 
 module _ (s : State) (h : List Event) (a : Agreed s h) (d : SoundAt h) where
-  map-agrees : (k : Kind) (n : ℕ) → mapLinesOf (mapIn k (namespaceAt s n)) ≡ linesOf k h n
-  map-agrees k n = sym (lines-of (mapIn k (namespaceAt s n))) ∙ ap orNone (a .namespace-map k n)
-
   height-agrees : (n : ℕ) → heightOf s n ≡ levelOf h n
   unfolding heightOf
   height-agrees n = let b = d .shallow n in let e = a .namespace-level n in omega arith
@@ -220,8 +215,8 @@ module _ (s : State) (h : List Event) (a : Agreed s h) (d : SoundAt h) where
   pub levels-history : byLevels s ≡ byHistory h
   unfolding byLevels
   levels-history = λ i. record {
-    out = λ (k : Kind) (n x : ℕ). outBy (λ (m : ℕ). a .namespace-parent m i) (λ (m : ℕ). map-agrees k m i) (height-agrees n i) n x;
-    back = λ (k : Kind) (n y : ℕ). backBy (λ (m : ℕ). a .namespace-parent m i) (λ (m : ℕ). map-agrees k m i) (height-agrees n i) n y;
+    out = λ (k : Kind) (n x : ℕ). outBy (λ (m : ℕ). a .namespace-parent m i) (λ (m : ℕ). lines-agree s h a k m i) (height-agrees n i) n x;
+    back = λ (k : Kind) (n y : ℕ). backBy (λ (m : ℕ). a .namespace-parent m i) (λ (m : ℕ). lines-agree s h a k m i) (height-agrees n i) n y;
   }
 
   -- the translation by lifted maps is the level by level one: out and back, for every kind, namespace and number
