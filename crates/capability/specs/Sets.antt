@@ -4,6 +4,20 @@ use Prim.Native.Nat.{ℕ, zero, suc, _+_, _/_, _%_, _^_}
 use mathlib.Core.Bool.{Bool, true, cond, not, _&&_, _||_}
 use lib.Dec.{eqb, ltb}
 
+-- Numbers of capabilities, as document 01 has them.
+abbrev pub capSetgid : ℕ
+capSetgid = 6
+
+abbrev pub capSetuid : ℕ
+capSetuid = 7
+
+abbrev pub capSysAdmin : ℕ
+capSysAdmin = 21
+
+-- The highest number that a capability has.
+abbrev pub capLastCap : ℕ
+capLastCap = 36
+
 -- Whether capability n is in the set: bit n is set. A set has no capability above 63.
 unfoldable pub holds : ℕ → ℕ → Bool
 holds bits n = ltb n 64 && eqb (bits / 2 ^ n % 2) 1

@@ -27,6 +27,10 @@ abbrev pub idOr : ℕ → Translated → ℕ
 idOr other (Id x) = x
 idOr other Unmapped = other
 
+-- document 01: what a process is shown for an ID that has no translation into its namespace
+abbrev pub overflowId : ℕ
+overflowId = 65534
+
 -- an ID, or 'no ID' where there is none
 abbrev pub orNoId : Translated → ℕ
 orNoId r = idOr noId r

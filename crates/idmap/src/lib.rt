@@ -10,6 +10,12 @@ pub mod text;
 // The most lines that a map has.
 pub const MAX_LINES: usize = 5;
 
+// The value that means 'no ID' and is never mapped.
+pub const NO_ID: u32 = 4294967295;
+
+// What a process is shown for an ID that has no translation into its namespace. Linux: overflowuid, overflowgid.
+pub const OVERFLOW_ID: u32 = 65534;
+
 // A line of a map: `count` IDs from `inside` on stand for those from `parent` on in the parent namespace.
 pub struct Line {
     pub inside: u32,
