@@ -4,7 +4,9 @@ ghost use Rattle.capability.specs.Sets.{holds, fullSet, emptySet, isWith
 
 // Numbers of capabilities: capabilities(7).
 pub const CAP_SETGID: u32 = 6;
+
 pub const CAP_SETUID: u32 = 7;
+
 pub const CAP_SYS_ADMIN: u32 = 21;
 // The highest number that a capability has.
 pub const CAP_LAST_CAP: u32 = 36;

@@ -12,8 +12,9 @@ use borrow.Author.Tests.{eq-eqb, ne-eqb}
 use Rattle.prelude.specs.Parts.{part}
 use Rattle.idmap.specs.declared.Line.{Line}
 use Rattle.idmap.specs.Line.{lineOfWords, lineAt, linesIn}
+use Rattle.idmap.specs.Good.{maxLines}
 use Rattle.rows.specs.Rows.{tab}
-use Rattle.records.specs.Records.{mapOf, mapFrom, linesOf}
+use Rattle.records.specs.Records.{mapWidth, mapOf, mapFrom, linesOf}
 use Rattle.records.specs.declared.IdMap.{IdMap}
 use Rattle.records.proofs.Records.{map-whole, map-other}
 
@@ -57,29 +58,29 @@ lines-words ws (suc n) k h =
     (lines-words ws n (k + 3) (omega arith) ∙ tab-same (λ (j : ℕ). lineAt ws (k + 3 + 3 * j)) (λ (j : ℕ). lineAt ws (k + 3 * suc j)) n 0 step ∙ tab-next (λ (j : ℕ). lineAt ws (k + 3 * j)) n 0))
 
 -- ---- written_lines
-module _ (ws r : List ℕ) (long : length ws ≡ 17) where
-  pub written-some : (n : ℕ) → n ≡ getD ws 1 0 → getD ws 0 0 ≡ 1 → n < 5 → r ≡ part (n * 3) 2 ws → linesIn r ≡ linesOf (mapOf ws)
+module _ (ws r : List ℕ) (long : length ws ≡ mapWidth) where
+  pub written-some : (n : ℕ) → n ≡ getD ws 1 0 → getD ws 0 0 ≡ 1 → n < maxLines → r ≡ part (n * 3) 2 ws → linesIn r ≡ linesOf (mapOf ws)
   unfolding part
   written-some n e t h q =
-      q′ ∙ rw (eq-eqb (getD ws 0 0) 1 t, ← e) (sym (tab-front (λ (j : ℕ). lineAt ws (2 + 3 * j)) n 5 0 (omega arith)))
+      q′ ∙ rw (eq-eqb (getD ws 0 0) 1 t, ← e) (sym (tab-front (λ (j : ℕ). lineAt ws (2 + 3 * j)) n maxLines 0 (omega arith)))
     where
       q′ : linesIn r ≡ tab (λ (j : ℕ). lineAt ws (2 + 3 * j)) n 0
       q′ = ap linesIn q ∙ lines-words ws n 2 (omega arith)
 
-  pub written-all : (n : ℕ) → n ≡ getD ws 1 0 → getD ws 0 0 ≡ 1 → 5 ≤ n → r ≡ part 15 2 ws → linesIn r ≡ linesOf (mapOf ws)
+  pub written-all : (n : ℕ) → n ≡ getD ws 1 0 → getD ws 0 0 ≡ 1 → maxLines ≤ n → r ≡ part (3 * maxLines) 2 ws → linesIn r ≡ linesOf (mapOf ws)
   unfolding part
   written-all n e t h q =
-      ap linesIn q ∙ lines-words ws 5 2 (omega arith) ∙ rw (eq-eqb (getD ws 0 0) 1 t, ← e) (sym (tab-whole (λ (j : ℕ). lineAt ws (2 + 3 * j)) n 5 0 h))
+      ap linesIn q ∙ lines-words ws maxLines 2 (omega arith) ∙ rw (eq-eqb (getD ws 0 0) 1 t, ← e) (sym (tab-whole (λ (j : ℕ). lineAt ws (2 + 3 * j)) n maxLines 0 h))
 
   pub written-none : (getD ws 0 0 ≡ 1 → ⊥) → r ≡ part 0 2 ws → linesIn r ≡ linesOf (mapOf ws)
   unfolding part linesIn
   written-none t q = ap linesIn q ∙ rw (ne-eqb (getD ws 0 0) 1 t)
 
 -- ---- lines_of
-pub lines-whole : (ws r : List ℕ) → length ws ≡ 17 → linesIn r ≡ linesOf (mapOf ws) → linesIn r ≡ linesOf (mapFrom ws)
+pub lines-whole : (ws r : List ℕ) → length ws ≡ mapWidth → linesIn r ≡ linesOf (mapOf ws) → linesIn r ≡ linesOf (mapFrom ws)
 lines-whole ws r h e = e ∙ ap (λ (m : IdMap). linesOf m) (sym (map-whole ws h))
 
-pub lines-other : (ws r : List ℕ) → (length ws ≡ 17 → ⊥) → r ≡ part 0 0 ws → linesIn r ≡ linesOf (mapFrom ws)
+pub lines-other : (ws r : List ℕ) → (length ws ≡ mapWidth → ⊥) → r ≡ part 0 0 ws → linesIn r ≡ linesOf (mapFrom ws)
 unfolding part linesIn
 lines-other ws r h e = ap linesIn e ∙ ap (λ (m : IdMap). linesOf m) (sym (map-other ws h))
 

@@ -1,11 +1,11 @@
 -- The records of the tables, and the rows of words that hold them. Nothing here is to be believed but that the layout loses nothing:
 -- a record's words are read as the record (proofs/Records.antt). Assumes nothing.
-use Prim.Native.Nat.{ℕ, _+_, _*_, _%_}
+use Prim.Native.Nat.{ℕ, _+_, _*_, _%_, _^_}
 use mathlib.Core.List.{List, [], _∷_}
 use mathlib.Core.Bool.{Bool, true, false, cond}
 use lib.ListN.{length, getD, take, drop, replicate}
 use lib.Dec.{eqb}
-use Rattle.capability.specs.Sets.{emptySet}
+use Rattle.capability.specs.Sets.{capSetgid, capSetuid, emptySet}
 use Rattle.idmap.specs.declared.Line.{Line}
 use Rattle.idmap.specs.Line.{noLine, lineAt}
 use Rattle.idmap.specs.Good.{maxLines}
@@ -23,7 +23,7 @@ abbrev pub flagWord : Bool → ℕ
 flagWord b = cond b 1 0
 
 abbrev pub lowOf : ℕ → ℕ
-lowOf w = w % 4294967296
+lowOf w = w % 2 ^ 32
 
 abbrev pub lowAt : List ℕ → ℕ → ℕ
 lowAt r k = lowOf (getD r k 0)
@@ -35,15 +35,27 @@ idsAt r k = record { real = lowAt r k; effective = lowAt r (k + 1); saved = lowA
 abbrev pub idsWords : Ids → List ℕ
 idsWords i = i .real ∷ i .effective ∷ i .saved ∷ []
 
+-- document 01: up to 16 supplementary groups
+abbrev pub maxGroups : ℕ
+maxGroups = 16
+
+-- a process's row: whether it is live, its namespace, three user IDs, three group IDs, the number of its groups, as many places as there may be groups, and
+-- two sets
+abbrev pub permittedAt : ℕ
+permittedAt = 9 + maxGroups
+
+abbrev pub processWidth : ℕ
+processWidth = permittedAt + 2
+
 abbrev pub processOf : List ℕ → Process
 processOf r = record {
   live = eqb (getD r 0 0) 1;
   namespace = getD r 1 0;
   users = idsAt r 2;
   groups = idsAt r 5;
-  supplementary = record { count = getD r 8 0; ids = tab (lowAt r) 16 9 };
-  permitted = record { bits = getD r 25 0 };
-  effective = record { bits = getD r 26 0 };
+  supplementary = record { count = getD r 8 0; ids = tab (lowAt r) maxGroups 9 };
+  permitted = record { bits = getD r permittedAt 0 };
+  effective = record { bits = getD r (permittedAt + 1) 0 };
 }
 
 -- document 01: a place of the process table that is free
@@ -53,7 +65,7 @@ freeProcess = record {
   namespace = 0;
   users = record { real = 0; effective = 0; saved = 0 };
   groups = record { real = 0; effective = 0; saved = 0 };
-  supplementary = record { count = 0; ids = replicate 16 0 };
+  supplementary = record { count = 0; ids = replicate maxGroups 0 };
   permitted = record { bits = emptySet };
   effective = record { bits = emptySet };
 }
@@ -62,12 +74,26 @@ freeProcess = record {
 abbrev pub stateOf : ℕ → ℕ → MapState
 stateOf tag n = cond (eqb tag 1) (Written n) Unwritten
 
--- a map's 17 words: whether it is written, with how many lines, and five lines of three words
+-- a map's words: whether it is written, with how many lines, and three words for each of as many lines as there may be
+abbrev pub mapWidth : ℕ
+mapWidth = 2 + 3 * maxLines
+
 abbrev pub mapOf : List ℕ → IdMap
 mapOf ws = record { state = stateOf (getD ws 0 0) (getD ws 1 0); lines = tab (λ (j : ℕ). lineAt ws (2 + 3 * j)) maxLines 0 }
 
 abbrev pub freeMap : IdMap
 freeMap = record { state = Unwritten; lines = replicate maxLines noLine }
+
+-- a namespace's row: whether it is live, its parent, its level, its owner, the words of its user map, those of its group map, and whether setgroups is denied
+abbrev pub mapAt : Kind → ℕ
+mapAt User = 4
+mapAt Group = 4 + mapWidth
+
+abbrev pub denyAt : ℕ
+denyAt = mapAt Group + mapWidth
+
+abbrev pub namespaceWidth : ℕ
+namespaceWidth = denyAt + 1
 
 abbrev pub namespaceOf : List ℕ → Namespace
 namespaceOf r = record {
@@ -75,9 +101,9 @@ namespaceOf r = record {
   parent = getD r 1 0;
   level = getD r 2 0;
   owner = lowAt r 3;
-  users = mapOf (take 17 (drop 4 r));
-  groups = mapOf (take 17 (drop 21 r));
-  deny = eqb (getD r 38 0) 1;
+  users = mapOf (take mapWidth (drop (mapAt User) r));
+  groups = mapOf (take mapWidth (drop (mapAt Group) r));
+  deny = eqb (getD r denyAt 0) 1;
 }
 
 -- document 01: a number that no namespace has
@@ -95,13 +121,13 @@ stateCount (Written n) = n
 
 -- ---- rows of any length: another length than a record's holds none
 unfoldable pub processFrom : List ℕ → Process
-processFrom r = cond (eqb (length r) 27) (processOf r) freeProcess
+processFrom r = cond (eqb (length r) processWidth) (processOf r) freeProcess
 
 unfoldable pub mapFrom : List ℕ → IdMap
-mapFrom ws = cond (eqb (length ws) 17) (mapOf ws) freeMap
+mapFrom ws = cond (eqb (length ws) mapWidth) (mapOf ws) freeMap
 
 unfoldable pub namespaceFrom : List ℕ → Namespace
-namespaceFrom r = cond (eqb (length r) 39) (namespaceOf r) freeNamespace
+namespaceFrom r = cond (eqb (length r) namespaceWidth) (namespaceOf r) freeNamespace
 
 -- ---- by kind: user IDs by the user maps, group IDs by the group maps
 abbrev pub idsIn : Kind → Process → Ids
@@ -112,10 +138,10 @@ abbrev pub mapIn : Kind → Namespace → IdMap
 mapIn User n = n .users
 mapIn Group n = n .groups
 
--- document 01: SETUID is 7, SETGID 6
+-- document 01: SETUID for user IDs, SETGID for group IDs
 abbrev pub setIdOf : Kind → ℕ
-setIdOf User = 7
-setIdOf Group = 6
+setIdOf User = capSetuid
+setIdOf Group = capSetgid
 
 abbrev pub isWritten : MapState → Bool
 isWritten Unwritten = false

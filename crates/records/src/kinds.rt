@@ -7,6 +7,8 @@ use crate::Kind;
 use crate::MapState;
 use crate::Namespace;
 use crate::Process;
+use capability::CAP_SETGID;
+use capability::CAP_SETUID;
 
 // A process's IDs of a kind.
 pub fn ids_in(kind: Kind, p: Process) -> Ids
@@ -32,13 +34,13 @@ pub fn map_in(kind: Kind, n: Namespace) -> IdMap
     }
 }
 
-// The number of the capability to set IDs of a kind: SETUID is 7, SETGID 6.
+// The number of the capability to set IDs of a kind.
 pub fn set_id(kind: Kind) -> u32
     ensures { λ r. ⌜ r ≡ setIdOf kind ⌝ }
 {
     match kind {
-        Kind::User => 7,
-        Kind::Group => 6,
+        Kind::User => CAP_SETUID,
+        Kind::Group => CAP_SETGID,
     }
 }
 

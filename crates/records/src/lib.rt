@@ -9,6 +9,12 @@ use capability::CapabilitySet;
 use idmap::Line;
 use idmap::MAX_LINES;
 
+// The most supplementary groups that a process has.
+pub const MAX_GROUPS: usize = 16;
+
+// IDs are kept in the low 32 bits of their words.
+const TWO_TO_32: u64 = 4294967296;
+
 // Which IDs a map or a call is about.
 pub enum Kind {
     User,
@@ -25,7 +31,7 @@ pub struct Ids {
 // The supplementary groups of a process, kernel IDs: the first `count` of `ids`.
 pub struct GroupList {
     pub count: u64,
-    pub ids: [u32; 16],
+    pub ids: [u32; MAX_GROUPS],
 }
 
 pub struct Process {

@@ -1,19 +1,66 @@
-// A namespace and its row of 39 words, 17 of them for each map.
+// A namespace and its row of words, and the words of a map in it.
 ghost use mathlib.Core.Path.{_≡_};
+ghost use Prim.Native.Nat.{_+_, _<_};
 ghost use lib.ListN.{length};
-ghost use Rattle.idmap.specs.Line.{linesIn};
-ghost use Rattle.records.specs.Records.{stateOf, stateTag, stateCount, mapOf, mapFrom, linesOf, freeMap, freeNamespace, namespaceOf, namespaceFrom};
+ghost use Rattle.idmap.specs.Line.{lineAt, linesIn};
+ghost use Rattle.records.specs.Records.{stateOf, stateTag, stateCount, mapWidth, mapAt, mapOf, mapFrom, linesOf, freeMap, freeNamespace, namespaceWidth, namespaceOf, namespaceFrom};
 use crate::IdMap;
+use crate::Kind;
 use crate::MapState;
 use crate::Namespace;
+use crate::TWO_TO_32;
 use crate::words::flag_word;
 use idmap::Line;
 use idmap::MAX_LINES;
 
+// Where the parts of a map stand among its words.
+const STATE: usize = 0;
+
+const COUNT: usize = STATE + 1;
+
+const LINES: usize = COUNT + 1;
+
+// The first word of a map that is written.
+const WRITTEN: u64 = 1;
+
+// The words of as many lines as there may be.
+const LINES_WIDTH: usize = 3 * MAX_LINES;
+
+// The words of a map.
+pub const MAP_WIDTH: usize = LINES + LINES_WIDTH;
+
+// Where the parts of a namespace stand in its row.
+const LIVE: usize = 0;
+
+const PARENT: usize = LIVE + 1;
+
+const LEVEL: usize = PARENT + 1;
+
+const OWNER: usize = LEVEL + 1;
+
+const USER_MAP: usize = OWNER + 1;
+
+const GROUP_MAP: usize = USER_MAP + MAP_WIDTH;
+
+const DENY: usize = GROUP_MAP + MAP_WIDTH;
+
+// The words of a namespace's row.
+pub const NAMESPACE_WIDTH: usize = DENY + 1;
+
+// Where the map of a kind stands in a namespace's row.
+pub fn map_at(kind: Kind) -> usize
+    ensures { λ r. ⌜ r ≡ mapAt kind ⌝ }
+{
+    match kind {
+        Kind::User => USER_MAP,
+        Kind::Group => GROUP_MAP,
+    }
+}
+
 fn state_of(tag: u64, n: u64) -> MapState
     ensures { λ r. ⌜ r ≡ stateOf tag n ⌝ }
 {
-    if tag == 1 {
+    if tag == WRITTEN {
         MapState::Written(n as usize)
     } else {
         MapState::Unwritten
@@ -25,7 +72,7 @@ fn state_tag(s: MapState) -> u64
 {
     match s {
         MapState::Unwritten => 0,
-        MapState::Written(_) => 1,
+        MapState::Written(_) => WRITTEN,
     }
 }
 
@@ -38,45 +85,36 @@ fn state_count(s: MapState) -> u64
     }
 }
 
-// The map that 17 words hold.
+// The line whose words stand from place `at` on.
+fn line_of(words: &[u64], at: usize) -> Line
+    requires { ⌜ at + 2 < length (now words) ⌝ }
+    ensures { λ r. ⌜ r ≡ lineAt (now (words .entry)) at ⌝ }
+{
+    Line {
+        inside: (words[at] % TWO_TO_32) as u32,
+        parent: (words[at + 1] % TWO_TO_32) as u32,
+        count: (words[at + 2] % TWO_TO_32) as u32,
+    }
+}
+
+// The map that a map's words hold.
 fn map_of(words: &[u64]) -> IdMap
-    requires { ⌜ length (now words) ≡ 17 ⌝ }
+    requires { ⌜ length (now words) ≡ mapWidth ⌝ }
     ensures { λ r. ⌜ r ≡ mapOf (now (words .entry)) ⌝ }
 {
+    let a = line_of(words, LINES);
+    let b = line_of(words, LINES + 3);
+    let c = line_of(words, LINES + 6);
+    let d = line_of(words, LINES + 9);
+    let e = line_of(words, LINES + 12);
     IdMap {
-        lines: [
-            Line {
-                inside: (words[2] % 4294967296) as u32,
-                parent: (words[3] % 4294967296) as u32,
-                count: (words[4] % 4294967296) as u32,
-            },
-            Line {
-                inside: (words[5] % 4294967296) as u32,
-                parent: (words[6] % 4294967296) as u32,
-                count: (words[7] % 4294967296) as u32,
-            },
-            Line {
-                inside: (words[8] % 4294967296) as u32,
-                parent: (words[9] % 4294967296) as u32,
-                count: (words[10] % 4294967296) as u32,
-            },
-            Line {
-                inside: (words[11] % 4294967296) as u32,
-                parent: (words[12] % 4294967296) as u32,
-                count: (words[13] % 4294967296) as u32,
-            },
-            Line {
-                inside: (words[14] % 4294967296) as u32,
-                parent: (words[15] % 4294967296) as u32,
-                count: (words[16] % 4294967296) as u32,
-            },
-        ],
-        state: state_of(words[0], words[1]),
+        state: state_of(words[STATE], words[COUNT]),
+        lines: [a, b, c, d, e],
     }
 }
 
 // The words that are read as a map.
-pub fn map_words(m: IdMap) -> [u64; 17]
+pub fn map_words(m: IdMap) -> [u64; MAP_WIDTH]
     ensures { λ r. ⌜ mapOf r ≡ m ⌝ }
 {
     let state = m.state;
@@ -107,26 +145,26 @@ pub fn map_words(m: IdMap) -> [u64; 17]
     ]
 }
 
-// The record of 39 words.
+// The record of a whole row.
 fn read_namespace(row: &[u64]) -> Namespace
-    requires { ⌜ length (now row) ≡ 39 ⌝ }
+    requires { ⌜ length (now row) ≡ namespaceWidth ⌝ }
     ensures { λ r. ⌜ r ≡ namespaceOf (now (row .entry)) ⌝ }
 {
-    let users = map_of(&row[4..21]);
-    let groups = map_of(&row[21..38]);
+    let users = map_of(&row[USER_MAP..GROUP_MAP]);
+    let groups = map_of(&row[GROUP_MAP..DENY]);
     Namespace {
-        live: row[0] == 1,
-        parent: row[1],
-        level: row[2],
-        owner: (row[3] % 4294967296) as u32,
+        live: row[LIVE] == 1,
+        parent: row[PARENT],
+        level: row[LEVEL],
+        owner: (row[OWNER] % TWO_TO_32) as u32,
         users: users,
         groups: groups,
-        deny: row[38] == 1,
+        deny: row[DENY] == 1,
     }
 }
 
 // The row of a record: the words that are read as it.
-pub fn namespace_words(n: Namespace) -> [u64; 39]
+pub fn namespace_words(n: Namespace) -> [u64; NAMESPACE_WIDTH]
     ensures { λ r. ⌜ namespaceOf r ≡ n ⌝ }
 {
     let users = n.users;
@@ -211,35 +249,35 @@ pub fn free_namespace() -> Namespace
 pub fn namespace_of(row: &[u64]) -> Namespace
     ensures { λ r. ⌜ r ≡ namespaceFrom (now (row .entry)) ⌝ }
 {
-    if row.len() == 39 {
+    if row.len() == NAMESPACE_WIDTH {
         read_namespace(row)
     } else {
         free_namespace()
     }
 }
 
-// The words of the lines that 17 words of a map hold, if it is written.
+// The words of the lines that a map's words hold, if it is written.
 fn written_lines(words: &[u64]) -> &[u64]
-    requires { ⌜ length (now words) ≡ 17 ⌝ }
+    requires { ⌜ length (now words) ≡ mapWidth ⌝ }
     ensures { λ r. ⌜ linesIn (now r) ≡ linesOf (mapOf (now (words .entry))) ⌝ }
 {
-    if words[0] == 1 {
-        let n = words[1];
-        if n < 5 {
-            rows::get(words, 2, (n as usize) * 3)
+    if words[STATE] == WRITTEN {
+        let n = words[COUNT];
+        if n < MAX_LINES as u64 {
+            rows::get(words, LINES, (n as usize) * 3)
         } else {
-            rows::get(words, 2, 15)
+            rows::get(words, LINES, LINES_WIDTH)
         }
     } else {
-        rows::get(words, 2, 0)
+        rows::get(words, LINES, 0)
     }
 }
 
-// The words of the written lines of a map, among the 17 words that hold the map. Other words hold none.
+// The words of the written lines of a map, among the words that hold the map. Words of another number hold none.
 pub fn lines_of(words: &[u64]) -> &[u64]
     ensures { λ r. ⌜ linesIn (now r) ≡ linesOf (mapFrom (now (words .entry))) ⌝ }
 {
-    if words.len() == 17 {
+    if words.len() == MAP_WIDTH {
         written_lines(words)
     } else {
         rows::get(words, 0, 0)

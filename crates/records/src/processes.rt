@@ -1,70 +1,94 @@
-// A process and its row of 27 words.
+// A process and its row of words.
 ghost use mathlib.Core.Path.{_≡_};
 ghost use lib.ListN.{length};
-ghost use Rattle.records.specs.Records.{freeProcess, processOf, processFrom};
+ghost use Rattle.records.specs.Records.{processWidth, freeProcess, processOf, processFrom};
 use crate::GroupList;
 use crate::Ids;
+use crate::MAX_GROUPS;
 use crate::Process;
+use crate::TWO_TO_32;
 use crate::words::flag_word;
 use capability::CapabilitySet;
 
-// The record of 27 words. IDs are kept in the low 32 bits of their words.
+// Where the parts of a process stand in its row.
+const LIVE: usize = 0;
+
+const NAMESPACE: usize = LIVE + 1;
+
+const USERS: usize = NAMESPACE + 1;
+
+const GROUPS: usize = USERS + 3;
+
+const SUPPLEMENTARY: usize = GROUPS + 3;
+
+const PERMITTED: usize = SUPPLEMENTARY + 1 + MAX_GROUPS;
+
+const EFFECTIVE: usize = PERMITTED + 1;
+
+// The words of a process's row.
+pub const PROCESS_WIDTH: usize = EFFECTIVE + 1;
+
+// The record of a whole row. IDs are kept in the low 32 bits of their words.
 fn read_process(row: &[u64]) -> Process
-    requires { ⌜ length (now row) ≡ 27 ⌝ }
+    requires { ⌜ length (now row) ≡ processWidth ⌝ }
     ensures { λ r. ⌜ r ≡ processOf (now (row .entry)) ⌝ }
 {
     Process {
-        live: row[0] == 1,
-        namespace: row[1],
+        live: row[LIVE] == 1,
+        namespace: row[NAMESPACE],
         users: Ids {
-            real: (row[2] % 4294967296) as u32,
-            effective: (row[3] % 4294967296) as u32,
-            saved: (row[4] % 4294967296) as u32,
+            real: (row[USERS] % TWO_TO_32) as u32,
+            effective: (row[USERS + 1] % TWO_TO_32) as u32,
+            saved: (row[USERS + 2] % TWO_TO_32) as u32,
         },
         groups: Ids {
-            real: (row[5] % 4294967296) as u32,
-            effective: (row[6] % 4294967296) as u32,
-            saved: (row[7] % 4294967296) as u32,
+            real: (row[GROUPS] % TWO_TO_32) as u32,
+            effective: (row[GROUPS + 1] % TWO_TO_32) as u32,
+            saved: (row[GROUPS + 2] % TWO_TO_32) as u32,
         },
         supplementary: GroupList {
-            count: row[8],
+            count: row[SUPPLEMENTARY],
             ids: [
-                (row[9] % 4294967296) as u32,
-                (row[10] % 4294967296) as u32,
-                (row[11] % 4294967296) as u32,
-                (row[12] % 4294967296) as u32,
-                (row[13] % 4294967296) as u32,
-                (row[14] % 4294967296) as u32,
-                (row[15] % 4294967296) as u32,
-                (row[16] % 4294967296) as u32,
-                (row[17] % 4294967296) as u32,
-                (row[18] % 4294967296) as u32,
-                (row[19] % 4294967296) as u32,
-                (row[20] % 4294967296) as u32,
-                (row[21] % 4294967296) as u32,
-                (row[22] % 4294967296) as u32,
-                (row[23] % 4294967296) as u32,
-                (row[24] % 4294967296) as u32,
+                (row[SUPPLEMENTARY + 1] % TWO_TO_32) as u32,
+                (row[SUPPLEMENTARY + 2] % TWO_TO_32) as u32,
+                (row[SUPPLEMENTARY + 3] % TWO_TO_32) as u32,
+                (row[SUPPLEMENTARY + 4] % TWO_TO_32) as u32,
+                (row[SUPPLEMENTARY + 5] % TWO_TO_32) as u32,
+                (row[SUPPLEMENTARY + 6] % TWO_TO_32) as u32,
+                (row[SUPPLEMENTARY + 7] % TWO_TO_32) as u32,
+                (row[SUPPLEMENTARY + 8] % TWO_TO_32) as u32,
+                (row[SUPPLEMENTARY + 9] % TWO_TO_32) as u32,
+                (row[SUPPLEMENTARY + 10] % TWO_TO_32) as u32,
+                (row[SUPPLEMENTARY + 11] % TWO_TO_32) as u32,
+                (row[SUPPLEMENTARY + 12] % TWO_TO_32) as u32,
+                (row[SUPPLEMENTARY + 13] % TWO_TO_32) as u32,
+                (row[SUPPLEMENTARY + 14] % TWO_TO_32) as u32,
+                (row[SUPPLEMENTARY + 15] % TWO_TO_32) as u32,
+                (row[SUPPLEMENTARY + 16] % TWO_TO_32) as u32,
             ],
         },
-        permitted: CapabilitySet { bits: row[25] },
-        effective: CapabilitySet { bits: row[26] },
+        permitted: CapabilitySet {
+            bits: row[PERMITTED],
+        },
+        effective: CapabilitySet {
+            bits: row[EFFECTIVE],
+        },
     }
 }
 
 // The same IDs as words.
-fn group_words(ids: [u32; 16]) -> [u64; 16]
+fn group_words(ids: [u32; MAX_GROUPS]) -> [u64; MAX_GROUPS]
     ensures { λ r. ⌜ r ≡ ids ⌝ }
 {
-    let mut words = [0u64; 16];
-    for i in 0..16usize {
+    let mut words = [0u64; MAX_GROUPS];
+    for i in 0..MAX_GROUPS {
         words[i] = ids[i] as u64;
     }
     words
 }
 
 // The row of a record: the words that are read as it.
-pub fn process_words(p: Process) -> [u64; 27]
+pub fn process_words(p: Process) -> [u64; PROCESS_WIDTH]
     ensures { λ r. ⌜ processOf r ≡ p ⌝ }
 {
     let u = p.users;
@@ -119,7 +143,7 @@ pub fn free_process() -> Process
         groups: none,
         supplementary: GroupList {
             count: 0,
-            ids: [0; 16],
+            ids: [0; MAX_GROUPS],
         },
         permitted: CapabilitySet::EMPTY,
         effective: CapabilitySet::EMPTY,
@@ -130,7 +154,7 @@ pub fn free_process() -> Process
 pub fn process_of(row: &[u64]) -> Process
     ensures { λ r. ⌜ r ≡ processFrom (now (row .entry)) ⌝ }
 {
-    if row.len() == 27 {
+    if row.len() == PROCESS_WIDTH {
         read_process(row)
     } else {
         free_process()

@@ -1,20 +1,21 @@
 -- `records::namespaces::map_of` meets its contract. Assumes nothing.
-use Prim.Native.Nat.{ℕ, _+_, _*_}
-use Rattle.idmap.specs.Line.{lineAt}
-use Rattle.rows.specs.Rows.{tab}
-use borrow.Author.Needs.{needs}
+use Rattle.records.proofs.Records.{records}
 use Rattle.records.proofs.namespaces.map_of.Statement.{statement}
 use Rattle.records.proofs.namespaces.map_of.Tie as tie
 
-returns : tie.Need-returns
-returns c = λ i. record { state = c .state-of .ensures i; lines = tab (λ (j : ℕ). lineAt (c .before .before .before .before .before .before .before .before .before .before .before .before .before .before .before .before .before .before .before .args .words .now) (2 + 3 * j)) 5 0 }
-
 pub map-of-spec : {M : Type 1} → statement M
 map-of-spec =
-    tie.close
-    (tie.spec
-    (λ c. search needs) (λ c. search needs) (λ c. search needs) (λ c. search needs) (λ c. search needs) (λ c. search needs) (λ c. search needs)
-    (λ c. search needs) (λ c. search needs) (λ c. search needs) (λ c. search needs) (λ c. search needs) (λ c. search needs) (λ c. search needs)
-    (λ c. search needs) (λ c. search needs) (λ c. search needs) (λ c. search needs) (λ c. search needs) (λ c. search needs) (λ c. search needs)
-    (λ c. search needs) (λ c. search needs) (λ c. search needs) (λ c. search needs) (λ c. search needs) (λ c. search needs) (λ c. search needs)
-    (λ c. search needs) (λ c. search needs) (λ c. search needs) (λ c. search needs) (λ c κs. search needs) returns)
+    tie.close (tie.spec
+    (λ c κs. search records)  -- line-of-requires
+    (λ c. search records)  -- add-line-of
+    (λ c κs. search records)  -- line-of-requires-2
+    (λ c. search records)  -- add-line-of-2
+    (λ c κs. search records)  -- line-of-requires-3
+    (λ c. search records)  -- add-line-of-3
+    (λ c κs. search records)  -- line-of-requires-4
+    (λ c. search records)  -- add-line-of-4
+    (λ c κs. search records)  -- line-of-requires-5
+    (λ c. search records)  -- shared-slice-read-state-of
+    (λ c. search records)  -- shared-slice-read-state-of-2
+    (λ c κs. search records)  -- state-of-requires
+    (λ c. search records))  -- returns

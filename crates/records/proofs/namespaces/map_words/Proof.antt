@@ -2,6 +2,7 @@
 use mathlib.Core.Path.{_≡_}
 use lib.ListN.{length, getD}
 use Rattle.idmap.specs.Line.{noLine}
+use Rattle.idmap.specs.Good.{maxLines}
 use Rattle.rows.proofs.Lists.{length-mapped}
 use Rattle.records.proofs.Records.{NarrowLine, map-round}
 use borrow.Author.Needs.{needs}
@@ -24,7 +25,7 @@ line-d c = record { inside = search needs; parent = search needs; count = search
 line-e : (c : tie.After-struct-known15) → NarrowLine (getD (c .before .before .before .before .before .before .before .before .before .before .before .before .before .before .before .before .before .before .before .before .before .before .before .args .m .lines) 4 noLine)
 line-e c = record { inside = search needs; parent = search needs; count = search needs }
 
-long : (c : tie.Start) → length (c .args .m .lines) ≡ 5
+long : (c : tie.Start) → length (c .args .m .lines) ≡ maxLines
 long c = search (needs, length-mapped)
 
 returns : tie.Need-returns

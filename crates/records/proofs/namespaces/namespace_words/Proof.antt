@@ -3,15 +3,16 @@ use mathlib.Core.Path.{_≡_}
 use lib.ListN.{length}
 use mir.Val.{Fits}
 use mir.Syntax.{w32}
+use Rattle.records.specs.Records.{mapWidth}
 use Rattle.records.proofs.Records.{namespace-round}
 use borrow.Author.Needs.{needs}
 use Rattle.records.proofs.namespaces.namespace_words.Statement.{statement}
 use Rattle.records.proofs.namespaces.namespace_words.Tie as tie
 
-long-users : (c : tie.After-map-words) → length (c .map-words .result) ≡ 17
+long-users : (c : tie.After-map-words) → length (c .map-words .result) ≡ mapWidth
 long-users c = search needs
 
-long-groups : (c : tie.After-map-words2) → length (c .map-words2 .result) ≡ 17
+long-groups : (c : tie.After-map-words2) → length (c .map-words2 .result) ≡ mapWidth
 long-groups c = search needs
 
 owner-fits : (c : tie.Start) → Fits w32 (c .args .n .owner)

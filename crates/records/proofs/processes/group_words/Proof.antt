@@ -2,15 +2,16 @@
 use mathlib.Core.Path.{_≡_}
 use Prim.Native.Nat.{_≤_, _-_}
 use lib.ListN.{length, take}
+use Rattle.records.specs.Records.{maxGroups}
 use Rattle.records.proofs.Records.{records}
 use Rattle.records.proofs.processes.group_words.Statement.{statement}
 use Rattle.records.proofs.processes.group_words.Tie as tie
 
 abbrev Inv-loop : tie.InvT-loop
-Inv-loop ids words₀ i₀ words i = (i ≤ 16) × (length words ≡ 16) × (length ids ≡ 16) × (take i words ≡ take i ids)
+Inv-loop ids words₀ i₀ words i = (i ≤ maxGroups) × (length words ≡ maxGroups) × (length ids ≡ maxGroups) × (take i words ≡ take i ids)
 
 abbrev μ-loop : tie.MeasureT-loop
-μ-loop ids words₀ i₀ words i = 16 - i
+μ-loop ids words₀ i₀ words i = maxGroups - i
 
 pub group-words-spec : {M : Type 1} → statement M
 group-words-spec =

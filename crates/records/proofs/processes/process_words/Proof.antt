@@ -5,12 +5,13 @@ use lib.ListN.{length, getD}
 use mir.Val.{Fits}
 use mir.Syntax.{w32}
 use borrow.Author.Needs.{needs}
+use Rattle.records.specs.Records.{maxGroups}
 use Rattle.records.proofs.Records.{NarrowIds, process-round}
 use Rattle.records.proofs.processes.process_words.Statement.{statement}
 use Rattle.records.proofs.processes.process_words.Tie as tie
 
 -- what is known of the record where the function starts
-facts : (c : tie.Start) → (length (c .args .p .supplementary .ids) ≡ 16) × NarrowIds (c .args .p .users) × NarrowIds (c .args .p .groups) × ((j : ℕ) → Fits w32 (getD (c .args .p .supplementary .ids) j 0))
+facts : (c : tie.Start) → (length (c .args .p .supplementary .ids) ≡ maxGroups) × NarrowIds (c .args .p .users) × NarrowIds (c .args .p .groups) × ((j : ℕ) → Fits w32 (getD (c .args .p .supplementary .ids) j 0))
 facts c =
     (search needs, record { real = search needs; effective = search needs; saved = search needs }, record { real = search needs; effective = search needs; saved = search needs }, λ j. search needs)
 
