@@ -84,30 +84,20 @@ pub map-read : (ws : List ℕ) (a b c d e : Line) (s : MapState) → a ≡ lineA
     → s ≡ stateOf (getD ws 0 0) (getD ws 1 0) → _≡_ {A = IdMap} (record { state = s; lines = a ∷ b ∷ c ∷ d ∷ e ∷ [] }) (mapOf ws)
 map-read ws a b c d e s p q r t u v = λ i. record { state = v i; lines = p i ∷ q i ∷ r i ∷ t i ∷ u i ∷ [] }
 
--- the numbers of a line have 32 bits
-pub record NarrowLine (l : Line) : Type 0 where
-  pub inside : Fits w32 (l .inside)
-  pub parent : Fits w32 (l .parent)
-  pub count : Fits w32 (l .count)
+-- a line from its words, whose numbers have 32 bits
+pub line-round : (l : Line) → Fits w32 (l .inside) → Fits w32 (l .parent) → Fits w32 (l .count) → lineAt (l .inside ∷ l .parent ∷ l .count ∷ []) 0 ≡ l
+line-round l i p c = rw (narrow i, narrow p, narrow c)
 
-line-round : (l : Line) → NarrowLine l → lineOfWords (l .inside) (l .parent) (l .count) ≡ l
-line-round l n = rw (narrow (n .inside), narrow (n .parent), narrow (n .count))
+-- three words of a line
+abbrev three : List ℕ → List ℕ → List ℕ
+three l rest = getD l 0 0 ∷ getD l 1 0 ∷ getD l 2 0 ∷ rest
 
--- the words of five lines
-abbrev linesRow : List Line → ℕ → ℕ → List ℕ
-linesRow ls zero k = []
-linesRow ls (suc n) k = getD ls k noLine .inside ∷ getD ls k noLine .parent ∷ getD ls k noLine .count ∷ linesRow ls n (suc k)
-
-pub map-round : (m : IdMap) (t n : ℕ) → t ≡ stateTag (m .state) → n ≡ stateCount (m .state) → length (m .lines) ≡ maxLines
-    → NarrowLine (getD (m .lines) 0 noLine) → NarrowLine (getD (m .lines) 1 noLine) → NarrowLine (getD (m .lines) 2 noLine) → NarrowLine (getD (m .lines) 3 noLine) → NarrowLine (getD (m .lines) 4 noLine)
-    → mapOf (t ∷ n ∷ linesRow (m .lines) maxLines 0) ≡ m
-map-round m t n e q h a b c d f =
-    let ls = m .lines in
-    let at : (k : ℕ) → NarrowLine (getD ls k noLine) → lineOfWords (getD ls k noLine .inside) (getD ls k noLine .parent) (getD ls k noLine .count) ≡ getD ls k noLine = λ k w. line-round (getD ls k noLine) w in
-    λ i. record { state = (ap₂ stateOf e q ∙ state-round (m .state)) i; lines = (ap₅ (at 0 a) (at 1 b) (at 2 c) (at 3 d) (at 4 f) ∙ tab-all ls noLine maxLines h) i }
-  where
-    ap₅ : {v w x y z v′ w′ x′ y′ z′ : Line} → v ≡ v′ → w ≡ w′ → x ≡ x′ → y ≡ y′ → z ≡ z′ → v ∷ w ∷ x ∷ y ∷ z ∷ [] ≡ v′ ∷ w′ ∷ x′ ∷ y′ ∷ z′ ∷ []
-    ap₅ p q r s t = λ i. p i ∷ q i ∷ r i ∷ s i ∷ t i ∷ []
+pub map-round : (m : IdMap) (t n : ℕ) (a b c d e : List ℕ) → t ≡ stateTag (m .state) → n ≡ stateCount (m .state) → length (m .lines) ≡ maxLines
+    → lineAt a 0 ≡ getD (m .lines) 0 noLine → lineAt b 0 ≡ getD (m .lines) 1 noLine → lineAt c 0 ≡ getD (m .lines) 2 noLine
+    → lineAt d 0 ≡ getD (m .lines) 3 noLine → lineAt e 0 ≡ getD (m .lines) 4 noLine
+    → mapOf (t ∷ n ∷ three a (three b (three c (three d (three e []))))) ≡ m
+map-round m t n a b c d e p q h u v x y z =
+    λ i. record { state = (ap₂ stateOf p q ∙ state-round (m .state)) i; lines = ((λ j. u j ∷ v j ∷ x j ∷ y j ∷ z j ∷ []) ∙ tab-all (m .lines) noLine maxLines h) i }
 
 -- ---- a namespace
 abbrev namespaceRow : ℕ → List ℕ → List ℕ → ℕ → Namespace → List ℕ
@@ -173,6 +163,8 @@ pub ruleset records = (
   state-written,
   state-unwritten,
   map-read,
+  line-round,
+  map-round,
   namespace-read,
   namespace-free,
   process-from,

@@ -113,35 +113,42 @@ fn map_of(words: &[u64]) -> IdMap
     }
 }
 
+// The words that are read as a line.
+fn line_words(l: Line) -> [u64; 3]
+    ensures { λ r. ⌜ lineAt r 0 ≡ l ⌝ }
+{
+    [l.inside as u64, l.parent as u64, l.count as u64]
+}
+
 // The words that are read as a map.
 pub fn map_words(m: IdMap) -> [u64; MAP_WIDTH]
     ensures { λ r. ⌜ mapOf r ≡ m ⌝ }
 {
     let state = m.state;
     let lines = m.lines;
-    let a = lines[0];
-    let b = lines[1];
-    let c = lines[2];
-    let d = lines[3];
-    let e = lines[4];
+    let a = line_words(lines[0]);
+    let b = line_words(lines[1]);
+    let c = line_words(lines[2]);
+    let d = line_words(lines[3]);
+    let e = line_words(lines[4]);
     [
         state_tag(state),
         state_count(state),
-        a.inside as u64,
-        a.parent as u64,
-        a.count as u64,
-        b.inside as u64,
-        b.parent as u64,
-        b.count as u64,
-        c.inside as u64,
-        c.parent as u64,
-        c.count as u64,
-        d.inside as u64,
-        d.parent as u64,
-        d.count as u64,
-        e.inside as u64,
-        e.parent as u64,
-        e.count as u64,
+        a[0],
+        a[1],
+        a[2],
+        b[0],
+        b[1],
+        b[2],
+        c[0],
+        c[1],
+        c[2],
+        d[0],
+        d[1],
+        d[2],
+        e[0],
+        e[1],
+        e[2],
     ]
 }
 

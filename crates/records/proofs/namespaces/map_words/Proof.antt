@@ -1,43 +1,37 @@
 -- `records::namespaces::map_words` meets its contract. Assumes nothing.
-use mathlib.Core.Path.{_≡_}
-use lib.ListN.{length, getD}
-use Rattle.idmap.specs.Line.{noLine}
-use Rattle.idmap.specs.Good.{maxLines}
 use Rattle.rows.proofs.Lists.{length-mapped}
-use Rattle.records.proofs.Records.{NarrowLine, map-round}
-use borrow.Author.Needs.{needs}
+use Rattle.records.proofs.Records.{records}
 use Rattle.records.proofs.namespaces.map_words.Statement.{statement}
 use Rattle.records.proofs.namespaces.map_words.Tie as tie
 
--- what is known of each line once its numbers are read
-line-a : (c : tie.After-struct-known3) → NarrowLine (getD (c .before .before .before .before .before .before .before .before .before .before .before .args .m .lines) 0 noLine)
-line-a c = record { inside = search needs; parent = search needs; count = search needs }
-
-line-b : (c : tie.After-struct-known6) → NarrowLine (getD (c .before .before .before .before .before .before .before .before .before .before .before .before .before .before .args .m .lines) 1 noLine)
-line-b c = record { inside = search needs; parent = search needs; count = search needs }
-
-line-c : (c : tie.After-struct-known9) → NarrowLine (getD (c .before .before .before .before .before .before .before .before .before .before .before .before .before .before .before .before .before .args .m .lines) 2 noLine)
-line-c c = record { inside = search needs; parent = search needs; count = search needs }
-
-line-d : (c : tie.After-struct-known12) → NarrowLine (getD (c .before .before .before .before .before .before .before .before .before .before .before .before .before .before .before .before .before .before .before .before .args .m .lines) 3 noLine)
-line-d c = record { inside = search needs; parent = search needs; count = search needs }
-
-line-e : (c : tie.After-struct-known15) → NarrowLine (getD (c .before .before .before .before .before .before .before .before .before .before .before .before .before .before .before .before .before .before .before .before .before .before .before .args .m .lines) 4 noLine)
-line-e c = record { inside = search needs; parent = search needs; count = search needs }
-
-long : (c : tie.Start) → length (c .args .m .lines) ≡ maxLines
-long c = search (needs, length-mapped)
-
-returns : tie.Need-returns
-returns c =
-    map-round (c .before .before .before .before .before .before .before .before .before .before .before .before .before .before .before .before .before .before .before .before .before .before .before .args .m) _ _ (c .before .before .before .before .before .before .before .before .before .before .before .before .before .before .before .before .state-tag .ensures)
-    (c .before .before .before .before .before .before .before .before .before .before .before .before .before .before .before .state-count .ensures) (long (c .before .before .before .before .before .before .before .before .before .before .before .before .before .before .before .before .before .before .before .before .before .before .before)) (line-a (c .before .before .before .before .before .before .before .before .before .before .before .before)) (line-b (c .before .before .before .before .before .before .before .before .before)) (line-c (c .before .before .before .before .before .before)) (line-d (c .before .before .before)) (line-e c)
-
 pub map-words-spec : {M : Type 1} → statement M
 map-words-spec =
-    tie.close
-    (tie.spec
-    (λ c. search needs) (λ c. search needs) (λ c. search needs) (λ c. search needs) (λ c. search needs) (λ c κs. search needs) (λ c κs. search needs)
-    (λ c. search needs) (λ c. search needs) (λ c. search needs) (λ c. search needs) (λ c. search needs) (λ c. search needs) (λ c. search needs)
-    (λ c. search needs) (λ c. search needs) (λ c. search needs) (λ c. search needs) (λ c. search needs) (λ c. search needs) (λ c. search needs)
-    (λ c. search needs) returns)
+    tie.close (tie.spec
+    (λ c. search records)  -- array-copy-out-line-words
+    (λ c κs. search records)  -- line-words-requires
+    (λ c. search records)  -- array-copy-out-line-words-2
+    (λ c κs. search records)  -- line-words-requires-2
+    (λ c. search records)  -- array-copy-out-line-words-3
+    (λ c κs. search records)  -- line-words-requires-3
+    (λ c. search records)  -- array-copy-out-line-words-4
+    (λ c κs. search records)  -- line-words-requires-4
+    (λ c. search records)  -- array-copy-out-line-words-5
+    (λ c κs. search records)  -- line-words-requires-5
+    (λ c κs. search records)  -- state-tag-requires
+    (λ c κs. search records)  -- state-count-requires
+    (λ c. search records)  -- array-read-t25
+    (λ c. search records)  -- array-read-t28
+    (λ c. search records)  -- array-read-t31
+    (λ c. search records)  -- array-read-t34
+    (λ c. search records)  -- array-read-t37
+    (λ c. search records)  -- array-read-t40
+    (λ c. search records)  -- array-read-t43
+    (λ c. search records)  -- array-read-t46
+    (λ c. search records)  -- array-read-t49
+    (λ c. search records)  -- array-read-t52
+    (λ c. search records)  -- array-read-t55
+    (λ c. search records)  -- array-read-t58
+    (λ c. search records)  -- array-read-t61
+    (λ c. search records)  -- array-read-t64
+    (λ c. search records)  -- array-read-t67
+    (λ c. search (records, length-mapped)))  -- returns

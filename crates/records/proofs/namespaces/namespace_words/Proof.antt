@@ -20,8 +20,12 @@ owner-fits c = search needs
 
 returns : tie.Need-returns
 returns c =
-    namespace-round (c .before .before .before .before .before .before .before .args .n) _ _ (c .before .before .before .before .map-words .result) (c .before .before .before .map-words2 .result) (c .before .before .flag-word .ensures) (c .flag-word2 .ensures) (long-users (c .before .before .before .before)) (long-groups (c .before .before .before))
-    (c .before .before .before .before .map-words .ensures) (c .before .before .before .map-words2 .ensures) (owner-fits (c .before .before .before .before .before .before .before))
+    let at-groups = c .before .before .before in
+    let at-users = at-groups .before in
+    let start = at-users .before .before .before in
+    namespace-round (start .args .n) _ _ (at-users .map-words .result) (at-groups .map-words2 .result)
+    (c .before .before .flag-word .ensures) (c .flag-word2 .ensures) (long-users at-users) (long-groups at-groups)
+    (at-users .map-words .ensures) (at-groups .map-words2 .ensures) (owner-fits start)
 
 pub namespace-words-spec : {M : Type 1} → statement M
 namespace-words-spec =

@@ -17,10 +17,12 @@ facts c =
 
 returns : tie.Need-returns
 returns c =
-    let start = c .before .before .before .before .before .before .before .before .before .before .before .before in
+    let at-flag = c .before .before .before .before .before .before in
+    let at-groups = at-flag .before in
+    let start = at-groups .before .before .before .before .before in
     let known = facts start in
-    process-round (start .args .p) _ _ (c .before .before .before .before .before .before .flag-word .ensures)
-    (c .before .before .before .before .before .before .before .group-words .ensures) (known .0) (known .1) (known .2) (known .3)
+    process-round (start .args .p) _ _ (at-flag .flag-word .ensures) (at-groups .group-words .ensures)
+    (known .0) (known .1) (known .2) (known .3)
 
 pub process-words-spec : {M : Type 1} → statement M
 process-words-spec =
