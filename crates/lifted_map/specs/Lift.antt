@@ -1,6 +1,6 @@
 -- What the code keeps beside a map, and is NOT to be believed: the map lifted over the maps above it, its lines as the pieces that they have in common
 -- with those above, so that one search translates through several levels. That it translates as they do is proved. Assumes nothing.
-use Prim.Native.Nat.{ℕ, _+_, _-_, min, max}
+use Prim.Native.Nat.{ℕ, _+_, _-_, _*_, min, max}
 use mathlib.Core.Bool.{cond}
 use mathlib.Core.List.{List, [], _∷_, _++_, map}
 use lib.Dec.{leb, eqb}
@@ -55,8 +55,11 @@ liftedOf above parent ls =
     (record { base = parent; lines = ls })
 
 -- a lifted map as a row of words: how many lines there are, the base, and three words for each of as many lines as there may be
+abbrev pub liftedWidth : ℕ
+liftedWidth = 2 + 3 * maxPieces
+
 abbrev pub placesIn : List ℕ → List Line
-placesIn ws = linesIn (part 99 2 ws)
+placesIn ws = linesIn (part (3 * maxPieces) 2 ws)
 
 unfoldable pub countedLines : List ℕ → List Line
 countedLines ws = take (getD ws 0 0) (placesIn ws)

@@ -7,5 +7,8 @@ pub mod read;
 // The most lines that a lifted map has.
 pub const MAX_PIECES: usize = 33;
 
-// The number of lines, the base, which is the namespace whose IDs are on the parent side, and three words for each of up to 33 lines.
-pub type LiftedMap = [u64; 101];
+// The words of a lifted map: the number of its lines, its base, which is the namespace whose IDs are on the parent side, and
+// three words for each of as many lines as there may be.
+pub const LIFTED_WIDTH: usize = 2 + 3 * MAX_PIECES;
+
+pub type LiftedMap = [u64; LIFTED_WIDTH];

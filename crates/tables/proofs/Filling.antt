@@ -12,14 +12,15 @@ use lib.ListN.{getD-replicate}
 use borrow.Author.Needs.{needs}
 use Rattle.prelude.specs.Parts.{part}
 use Rattle.idmap.specs.Line.{linesIn}
-use Rattle.lifted_map.specs.Lift.{Lifted, countedLines, liftedIn}
+use Rattle.idmap.specs.Good.{noId}
+use Rattle.lifted_map.specs.Lift.{Lifted, liftedWidth, countedLines, liftedIn}
 use Rattle.records.specs.declared.Process.{Process}
 use Rattle.records.specs.declared.Namespace.{Namespace}
 use Rattle.records.specs.declared.IdMap.{IdMap}
 use Rattle.records.specs.declared.Kind.{Kind}
 use Rattle.records.specs.declared.Kind.the-variants.{User, Group}
 use Rattle.records.specs.Records.{freeProcess, freeNamespace}
-use Rattle.tables.specs.Tables.{State, tablesOf, liftedMaps, putProcess, putNamespace, putLiftedMap, withProcesses, withNamespaces, withLiftedMaps, firstProcess, fixedMap, noLift, fixedLift, rootNamespace, firstLiftedMaps, initialTables}
+use Rattle.tables.specs.Tables.{State, processPlaces, namespacePlaces, tablesOf, liftedMaps, putProcess, putNamespace, putLiftedMap, withProcesses, withNamespaces, withLiftedMaps, firstProcess, fixedMap, noLift, fixedLift, rootNamespace, firstLiftedMaps, initialTables}
 use Rattle.tables.proofs.Tables.{length-processes, length-namespaces, length-lifted-maps}
 
 module _ {A : Type 0} (qs ps : List A) where
@@ -32,11 +33,11 @@ module _ {A : Type 0} (qs ps : List A) where
   fill-all i hq hp = rw (zero-add i, drop-of-length-le qs {i = i} hq, take-all i ps hp) (append-nil ps)
 
 -- ---- processes
-pub places-are : (free first : Process) → free ≡ freeProcess → first ≡ firstProcess → set (replicate 128 free) 0 first ≡ initialTables .processes
+pub places-are : (free first : Process) → free ≡ freeProcess → first ≡ firstProcess → set (replicate processPlaces free) 0 first ≡ initialTables .processes
 unfolding initialTables
 places-are free first e q = rw (e, q)
 
-length-places : length (initialTables .processes) ≡ 128
+length-places : length (initialTables .processes) ≡ processPlaces
 unfolding initialTables
 length-places = refl
 
@@ -50,14 +51,14 @@ module _ (l : List ℕ) where
   processes-none = ap (withProcesses (tablesOf l)) (paste-zero (tablesOf l .processes) 0 (initialTables .processes))
 
   module _ (l′ : List ℕ) (i : ℕ) (inv : tablesOf l′ ≡ processesIn (tablesOf l) i) where
-    pub processes-more : (places : List Process) (s : State) (d : Process) → i < 128 → places ≡ initialTables .processes → s ≡ putProcess (tablesOf l′) i (getD places i d) → s ≡ processesIn (tablesOf l) (i + 1)
+    pub processes-more : (places : List Process) (s : State) (d : Process) → i < processPlaces → places ≡ initialTables .processes → s ≡ putProcess (tablesOf l′) i (getD places i d) → s ≡ processesIn (tablesOf l) (i + 1)
     unfolding processesIn
     processes-more places s d h q e =
         let k = length-processes l in
         let j = length-places in
         e ∙ rw (q, inv, fill-more (tablesOf l .processes) (initialTables .processes) i d (omega arith) (omega arith))
 
-    pub processes-all : 128 ≤ i → tablesOf l′ ≡ withProcesses (tablesOf l) (initialTables .processes)
+    pub processes-all : processPlaces ≤ i → tablesOf l′ ≡ withProcesses (tablesOf l) (initialTables .processes)
     unfolding processesIn
     processes-all h =
         let k = length-processes l in
@@ -66,30 +67,30 @@ module _ (l : List ℕ) where
 
 -- ---- namespaces
 pub namespacesIn : State → ℕ → State
-namespacesIn s i = withNamespaces s (paste (s .namespaces) 0 (replicate 64 freeNamespace) i)
+namespacesIn s i = withNamespaces s (paste (s .namespaces) 0 (replicate namespacePlaces freeNamespace) i)
 
 module _ (l : List ℕ) where
   pub namespaces-none : tablesOf l ≡ namespacesIn (tablesOf l) 0
   unfolding namespacesIn
-  namespaces-none = ap (withNamespaces (tablesOf l)) (paste-zero (tablesOf l .namespaces) 0 (replicate 64 freeNamespace))
+  namespaces-none = ap (withNamespaces (tablesOf l)) (paste-zero (tablesOf l .namespaces) 0 (replicate namespacePlaces freeNamespace))
 
   module _ (l′ : List ℕ) (i : ℕ) (inv : tablesOf l′ ≡ namespacesIn (tablesOf l) i) where
-    pub namespaces-more : (free : Namespace) (s : State) → i < 64 → free ≡ freeNamespace → s ≡ putNamespace (tablesOf l′) i free → s ≡ namespacesIn (tablesOf l) (i + 1)
+    pub namespaces-more : (free : Namespace) (s : State) → i < namespacePlaces → free ≡ freeNamespace → s ≡ putNamespace (tablesOf l′) i free → s ≡ namespacesIn (tablesOf l) (i + 1)
     unfolding namespacesIn
     namespaces-more free s h q e =
         let k = length-namespaces l in
-        let d : getD (replicate 64 freeNamespace) i freeNamespace ≡ freeNamespace = getD-replicate 64 i freeNamespace freeNamespace h in
-        e ∙ rw (q, inv) (ap (λ (n : Namespace). withNamespaces (tablesOf l) (set (paste (tablesOf l .namespaces) 0 (replicate 64 freeNamespace) i) i n)) (sym d) ∙ ap (withNamespaces (tablesOf l)) (fill-more (tablesOf l .namespaces) (replicate 64 freeNamespace) i freeNamespace (omega arith) h))
+        let d : getD (replicate namespacePlaces freeNamespace) i freeNamespace ≡ freeNamespace = getD-replicate namespacePlaces i freeNamespace freeNamespace h in
+        e ∙ rw (q, inv) (ap (λ (n : Namespace). withNamespaces (tablesOf l) (set (paste (tablesOf l .namespaces) 0 (replicate namespacePlaces freeNamespace) i) i n)) (sym d) ∙ ap (withNamespaces (tablesOf l)) (fill-more (tablesOf l .namespaces) (replicate namespacePlaces freeNamespace) i freeNamespace (omega arith) h))
 
-    pub namespaces-all : (root : Namespace) (s : State) → 64 ≤ i → root ≡ rootNamespace → s ≡ putNamespace (tablesOf l′) 0 root → s ≡ withNamespaces (tablesOf l) (initialTables .namespaces)
+    pub namespaces-all : (root : Namespace) (s : State) → namespacePlaces ≤ i → root ≡ rootNamespace → s ≡ putNamespace (tablesOf l′) 0 root → s ≡ withNamespaces (tablesOf l) (initialTables .namespaces)
     unfolding namespacesIn initialTables
     namespaces-all root s h q e =
         let k = length-namespaces l in
-        e ∙ rw (q, inv, fill-all (tablesOf l .namespaces) (replicate 64 freeNamespace) i (omega arith) h)
+        e ∙ rw (q, inv, fill-all (tablesOf l .namespaces) (replicate namespacePlaces freeNamespace) i (omega arith) h)
 
 -- ---- lifted maps, of a kind
 pub liftedMapsIn : State → Kind → ℕ → State
-liftedMapsIn s k i = withLiftedMaps s k (paste (liftedMaps k s) 0 (replicate 64 noLift) i)
+liftedMapsIn s k i = withLiftedMaps s k (paste (liftedMaps k s) 0 (replicate namespacePlaces noLift) i)
 
 -- lists put one after the other: the last one stands
 put-again : (s : State) (k : Kind) (ms : List Lifted) (i : ℕ) (m : Lifted) → putLiftedMap (withLiftedMaps s k ms) k i m ≡ withLiftedMaps s k (set ms i m)
@@ -103,29 +104,29 @@ put-none s Group = refl
 module _ (l : List ℕ) (k : Kind) where
   pub lifted-maps-none : tablesOf l ≡ liftedMapsIn (tablesOf l) k 0
   unfolding liftedMapsIn
-  lifted-maps-none = put-none (tablesOf l) k ∙ ap (withLiftedMaps (tablesOf l) k) (paste-zero (liftedMaps k (tablesOf l)) 0 (replicate 64 noLift))
+  lifted-maps-none = put-none (tablesOf l) k ∙ ap (withLiftedMaps (tablesOf l) k) (paste-zero (liftedMaps k (tablesOf l)) 0 (replicate namespacePlaces noLift))
 
   module _ (l′ : List ℕ) (i : ℕ) (inv : tablesOf l′ ≡ liftedMapsIn (tablesOf l) k i) where
-    pub lifted-maps-more : (free : Lifted) (s : State) → i < 64 → free ≡ noLift → s ≡ putLiftedMap (tablesOf l′) k i free → s ≡ liftedMapsIn (tablesOf l) k (i + 1)
+    pub lifted-maps-more : (free : Lifted) (s : State) → i < namespacePlaces → free ≡ noLift → s ≡ putLiftedMap (tablesOf l′) k i free → s ≡ liftedMapsIn (tablesOf l) k (i + 1)
     unfolding liftedMapsIn
     lifted-maps-more free s h q e =
         let j = length-lifted-maps k l in
-        let d : getD (replicate 64 noLift) i noLift ≡ noLift = getD-replicate 64 i noLift noLift h in
-        let ms = paste (liftedMaps k (tablesOf l)) 0 (replicate 64 noLift) i in
-        e ∙ rw (q, inv) (put-again (tablesOf l) k ms i noLift ∙ ap (λ (m : Lifted). withLiftedMaps (tablesOf l) k (set ms i m)) (sym d) ∙ ap (withLiftedMaps (tablesOf l) k) (fill-more (liftedMaps k (tablesOf l)) (replicate 64 noLift) i noLift (omega arith) h))
+        let d : getD (replicate namespacePlaces noLift) i noLift ≡ noLift = getD-replicate namespacePlaces i noLift noLift h in
+        let ms = paste (liftedMaps k (tablesOf l)) 0 (replicate namespacePlaces noLift) i in
+        e ∙ rw (q, inv) (put-again (tablesOf l) k ms i noLift ∙ ap (λ (m : Lifted). withLiftedMaps (tablesOf l) k (set ms i m)) (sym d) ∙ ap (withLiftedMaps (tablesOf l) k) (fill-more (liftedMaps k (tablesOf l)) (replicate namespacePlaces noLift) i noLift (omega arith) h))
 
-    pub lifted-maps-all : (fixed : Lifted) (s : State) → 64 ≤ i → fixed ≡ fixedLift → s ≡ putLiftedMap (tablesOf l′) k 0 fixed → s ≡ withLiftedMaps (tablesOf l) k firstLiftedMaps
+    pub lifted-maps-all : (fixed : Lifted) (s : State) → namespacePlaces ≤ i → fixed ≡ fixedLift → s ≡ putLiftedMap (tablesOf l′) k 0 fixed → s ≡ withLiftedMaps (tablesOf l) k firstLiftedMaps
     unfolding liftedMapsIn firstLiftedMaps
     lifted-maps-all fixed s h q e =
         let j = length-lifted-maps k l in
-        e ∙ rw (q, inv, fill-all (liftedMaps k (tablesOf l)) (replicate 64 noLift) i (omega arith) h) (put-again (tablesOf l) k (replicate 64 noLift) 0 fixedLift)
+        e ∙ rw (q, inv, fill-all (liftedMaps k (tablesOf l)) (replicate namespacePlaces noLift) i (omega arith) h) (put-again (tablesOf l) k (replicate namespacePlaces noLift) 0 fixedLift)
 
 -- the rows of words that they are filled with
-pub row-empty : liftedIn (replicate 101 0) ≡ noLift
+pub row-empty : liftedIn (replicate liftedWidth 0) ≡ noLift
 unfolding liftedIn countedLines part linesIn
 row-empty = refl
 
-pub row-fixed : liftedIn (set (set (replicate 101 0) 0 1) 4 4294967295) ≡ fixedLift
+pub row-fixed : liftedIn (set (set (replicate liftedWidth 0) 0 1) 4 noId) ≡ fixedLift
 unfolding liftedIn countedLines part linesIn
 row-fixed = refl
 

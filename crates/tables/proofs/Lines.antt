@@ -4,18 +4,21 @@ use mathlib.Core.Path.{_≡_, refl, sym, ap, _∙_}
 use mathlib.Core.List.{List, []}
 use native.Mathlib.Omega.{arith}
 use lib.ListN.{length, take, drop}
+use mir.Val.{Fits}
+use mir.Syntax.{w64}
 use borrow.Author.Needs.{needs}
 use Rattle.prelude.specs.Parts.{part}
 use Rattle.prelude.proofs.Parts.{length-part, part-part}
 use Rattle.idmap.specs.Line.{linesIn}
-use Rattle.lifted_map.specs.Lift.{Lifted, countedLines, liftedIn}
+use Rattle.lifted_map.specs.Lift.{Lifted, liftedWidth, countedLines, liftedIn}
 use Rattle.rows.proofs.Rows.{row-get, row-none}
 use Rattle.records.proofs.Records.{map-whole}
 use Rattle.records.specs.declared.IdMap.{IdMap}
 use Rattle.records.specs.declared.Kind.{Kind}
 use Rattle.records.specs.declared.Kind.the-variants.{User, Group}
-use Rattle.records.specs.Records.{mapOf, mapFrom, namespaceOf, freeNamespace, mapIn, linesOf}
-use Rattle.tables.specs.Tables.{tablesOf, namespaceAt, noLift, liftedAt}
+use Rattle.records.specs.Records.{mapWidth, mapAt, mapOf, mapFrom, namespaceWidth, namespaceOf, freeNamespace, mapIn, linesOf}
+use Rattle.tables.specs.Tables.{namespacePlaces, namespacesAt, liftedMapsAt, tablesWidth, tablesOf, namespaceAt, noLift, liftedAt}
+use Rattle.tables.proofs.Tables.{lifted-none, lifted-get}
 
 -- ---- map_lines
 -- a namespace past the table has no lines, of either kind
@@ -23,72 +26,54 @@ no-lines : (k : Kind) → linesOf (mapIn k freeNamespace) ≡ []
 no-lines User = refl
 no-lines Group = refl
 
-module _ (l : List ℕ) (place : ℕ) where
-  pub lines-past : (k : Kind) (r : List ℕ) → 64 ≤ place → r ≡ part 0 0 l → linesIn r ≡ linesOf (mapIn k (namespaceAt (tablesOf l) place))
+-- a map of a kind is read from its own words of the namespace's row, and these end in the row
+map-words : (k : Kind) (r : List ℕ) → mapIn k (namespaceOf r) ≡ mapOf (take mapWidth (drop (mapAt k) r))
+map-words User r = refl
+map-words Group r = refl
+
+map-within : (k : Kind) → mapAt k + mapWidth ≤ namespaceWidth
+map-within User = omega arith
+map-within Group = omega arith
+
+module _ (l : List ℕ) (place : ℕ) (k : Kind) (r : List ℕ) where
+  pub lines-past : namespacePlaces ≤ place → r ≡ part 0 0 l → linesIn r ≡ linesOf (mapIn k (namespaceAt (tablesOf l) place))
   unfolding part linesIn tablesOf namespaceAt
-  lines-past k r h q = ap linesIn q ∙ sym (rw (row-none namespaceOf 39 64 3456 l place freeNamespace h) (no-lines k))
+  lines-past h q = ap linesIn q ∙ sym (rw (row-none namespaceOf namespaceWidth namespacePlaces namespacesAt l place freeNamespace h) (no-lines k))
 
-  -- where a map's words stand
-  map-at : (a : ℕ) → a + 17 ≤ 39 → take 17 (drop a (part 39 (3456 + place * 39) l)) ≡ part 17 (3456 + place * 39 + a) l
-  map-at a h = part-part 17 a 39 (3456 + place * 39) l h
+  pub lines-at : length l ≡ tablesWidth → place < namespacePlaces → (w : List ℕ) (a : ℕ) → a ≡ mapAt k → w ≡ part mapWidth (namespacesAt + place * namespaceWidth + a) l
+      → linesIn r ≡ linesOf (mapFrom w) → linesIn r ≡ linesOf (mapIn k (namespaceAt (tablesOf l) place))
+  unfolding tablesOf namespaceAt
+  lines-at long h w a at e read =
+      let row = namespacesAt + place * namespaceWidth in
+      let there : w ≡ take mapWidth (drop (mapAt k) (part namespaceWidth row l)) = e ∙ rw at (sym (part-part mapWidth (mapAt k) namespaceWidth row l (map-within k))) in
+      let whole = map-whole w (rw (e, at) (length-part mapWidth (row + mapAt k) l (omega (arith, map-within k)))) in
+      read ∙ ap (λ (m : IdMap). linesOf m) (whole ∙ ap mapOf there ∙ sym (map-words k (part namespaceWidth row l)))
+      ∙ sym (rw (row-get namespaceOf namespaceWidth namespacePlaces namespacesAt l place freeNamespace row refl h))
 
-  module _ (long : length l ≡ 18880) (h : place < 64) (w : List ℕ) where
-    module _ (k : Kind) (r : List ℕ) (read : linesIn r ≡ linesOf (mapFrom w)) where
-      pub lines-users : w ≡ part 17 (3460 + place * 39) l → k ≡ User → linesIn r ≡ linesOf (mapIn k (namespaceAt (tablesOf l) place))
-      unfolding tablesOf namespaceAt
-      lines-users e q =
-          let z : 3460 + place * 39 ≡ 3456 + place * 39 + 4 = omega arith in
-          let same : w ≡ take 17 (drop 4 (part 39 (3456 + place * 39) l)) = e ∙ ap (λ (a : ℕ). part 17 a l) z ∙ sym (map-at 4 (omega arith)) in
-          let whole = map-whole w (rw e (length-part 17 (3460 + place * 39) l (omega arith))) in
-          read ∙ ap (λ (m : IdMap). linesOf m) whole ∙ rw (q, row-get namespaceOf 39 64 3456 l place freeNamespace (3456 + place * 39) refl h) (ap (λ (v : List ℕ). linesOf (mapOf v)) same)
-
-      pub lines-groups : w ≡ part 17 (3477 + place * 39) l → k ≡ Group → linesIn r ≡ linesOf (mapIn k (namespaceAt (tablesOf l) place))
-      unfolding tablesOf namespaceAt
-      lines-groups e q =
-          let z : 3477 + place * 39 ≡ 3456 + place * 39 + 21 = omega arith in
-          let same : w ≡ take 17 (drop 21 (part 39 (3456 + place * 39) l)) = e ∙ ap (λ (a : ℕ). part 17 a l) z ∙ sym (map-at 21 (omega arith)) in
-          let whole = map-whole w (rw e (length-part 17 (3477 + place * 39) l (omega arith))) in
-          read ∙ ap (λ (m : IdMap). linesOf m) whole ∙ rw (q, row-get namespaceOf 39 64 3456 l place freeNamespace (3456 + place * 39) refl h) (ap (λ (v : List ℕ). linesOf (mapOf v)) same)
+-- where a map of a kind starts is a number of 64 bits
+pub map-fits : (k : Kind) (i a : ℕ) → a ≡ mapAt k → i < namespacePlaces → Fits w64 (namespacesAt + i * namespaceWidth + a)
+map-fits k i a e h = omega (arith, map-within k)
 
 -- ---- lifted_lines, lifted_base
-module _ (l : List ℕ) (place : ℕ) where
-  lift-past : (k : Kind) → 64 ≤ place → liftedAt (tablesOf l) k place ≡ noLift
-  unfolding tablesOf liftedAt
-  lift-past User h = row-none liftedIn 101 64 5952 l place noLift h
-  lift-past Group h = row-none liftedIn 101 64 12416 l place noLift h
-
-  pub lines-past-end : (k : Kind) (r : List ℕ) → 64 ≤ place → r ≡ part 0 0 l → linesIn r ≡ liftedAt (tablesOf l) k place .lines
+module _ (l : List ℕ) (place : ℕ) (k : Kind) where
+  pub lines-past-end : (r : List ℕ) → namespacePlaces ≤ place → r ≡ part 0 0 l → linesIn r ≡ liftedAt (tablesOf l) k place .lines
   unfolding part linesIn
-  lines-past-end k r h q = ap linesIn q ∙ sym (ap (λ (m : Lifted). m .lines) (lift-past k h))
+  lines-past-end r h q = ap linesIn q ∙ sym (ap (λ (m : Lifted). m .lines) (lifted-none l place k h))
 
-  pub base-past-end : (k : Kind) → 64 ≤ place → 0 ≡ liftedAt (tablesOf l) k place .base
-  base-past-end k h = sym (ap (λ (m : Lifted). m .base) (lift-past k h))
+  pub base-past-end : namespacePlaces ≤ place → 0 ≡ liftedAt (tablesOf l) k place .base
+  base-past-end h = sym (ap (λ (m : Lifted). m .base) (lifted-none l place k h))
 
-  module _ (h : place < 64) (w : List ℕ) (k : Kind) where
-    lift-users : w ≡ part 101 (5952 + place * 101) l → k ≡ User → liftedIn w ≡ liftedAt (tablesOf l) k place
-    unfolding tablesOf liftedAt
-    lift-users e q = ap liftedIn e ∙ rw q (sym (row-get liftedIn 101 64 5952 l place noLift (5952 + place * 101) refl h))
+  module _ (h : place < namespacePlaces) (w : List ℕ) (a : ℕ) (at : a ≡ liftedMapsAt k + place * liftedWidth) (e : w ≡ part liftedWidth a l) where
+    lift-at : liftedIn w ≡ liftedAt (tablesOf l) k place
+    lift-at = ap liftedIn e ∙ rw at (sym (lifted-get l place k h))
 
-    lift-groups : w ≡ part 101 (12416 + place * 101) l → k ≡ Group → liftedIn w ≡ liftedAt (tablesOf l) k place
-    unfolding tablesOf liftedAt
-    lift-groups e q = ap liftedIn e ∙ rw q (sym (row-get liftedIn 101 64 12416 l place noLift (12416 + place * 101) refl h))
+    pub lines-lifted : (r : List ℕ) → linesIn r ≡ countedLines w → linesIn r ≡ liftedAt (tablesOf l) k place .lines
+    unfolding liftedIn
+    lines-lifted r read = read ∙ ap (λ (m : Lifted). m .lines) lift-at
 
-    module _ (r : List ℕ) (read : linesIn r ≡ countedLines w) where
-      pub lines-users-at : w ≡ part 101 (5952 + place * 101) l → k ≡ User → linesIn r ≡ liftedAt (tablesOf l) k place .lines
-      unfolding liftedIn
-      lines-users-at e q = read ∙ ap (λ (m : Lifted). m .lines) (lift-users e q)
+    pub base-lifted : (b : ℕ) → b ≡ liftedIn w .base → b ≡ liftedAt (tablesOf l) k place .base
+    base-lifted b read = read ∙ ap (λ (m : Lifted). m .base) lift-at
 
-      pub lines-groups-at : w ≡ part 101 (12416 + place * 101) l → k ≡ Group → linesIn r ≡ liftedAt (tablesOf l) k place .lines
-      unfolding liftedIn
-      lines-groups-at e q = read ∙ ap (λ (m : Lifted). m .lines) (lift-groups e q)
+pub ruleset lines = (lines-past, lines-at, map-fits, needs)
 
-    module _ (b : ℕ) (read : b ≡ liftedIn w .base) where
-      pub base-users-at : w ≡ part 101 (5952 + place * 101) l → k ≡ User → b ≡ liftedAt (tablesOf l) k place .base
-      base-users-at e q = read ∙ ap (λ (m : Lifted). m .base) (lift-users e q)
-
-      pub base-groups-at : w ≡ part 101 (12416 + place * 101) l → k ≡ Group → b ≡ liftedAt (tablesOf l) k place .base
-      base-groups-at e q = read ∙ ap (λ (m : Lifted). m .base) (lift-groups e q)
-
-pub ruleset lines = (lines-past, lines-users, lines-groups, needs)
-
-pub ruleset lifted = (lines-past-end, base-past-end, lines-users-at, lines-groups-at, base-users-at, base-groups-at, needs)
+pub ruleset lifted = (lines-past-end, base-past-end, lines-lifted, base-lifted, needs)

@@ -12,9 +12,10 @@ use Rattle.tables.specs.declared.answer.Errno.{Errno}
 use Rattle.tables.specs.declared.answer.Answer.{Answer}
 use Rattle.tables.specs.declared.answer.Answer.the-variants.{Refused}
 use Rattle.tables.specs.declared.find.Found.{Found}
-use Rattle.tables.specs.declared.find.Found.the-variants.{At}
-use Rattle.tables.specs.Tables.{tablesOf}
-use Rattle.tables.specs.Find.{freeFrom, freeProcessPlace, freeNamespacePlace}
+use Rattle.tables.specs.declared.find.Found.the-variants.{At, Nothing}
+use Rattle.tables.specs.declared.find.Free.the-variants.{Place, Full}
+use Rattle.tables.specs.Tables.{processPlaces, namespacePlaces, tablesOf}
+use Rattle.tables.specs.Find.{freeFrom, freeProcessPlace, freeNamespacePlace, numbered}
 use Rattle.tables.specs.Reply.{numberOf, replyOf, Outcome, refuse, isRefused, Promise}
 use Rattle.tables.proofs.Tables.{length-processes, length-namespaces}
 
@@ -35,16 +36,26 @@ free-below live k i (x ∷ l) e =
     (λ t. let h = free-below live (ℕ.suc k) i l (rw t at e) in omega arith)
     (λ t. let h : At k ≡ At i = rw t at e in let z : k ≡ i = cc in omega arith)
 
-pub free-process-below : (l : List ℕ) (r : Found) (i : ℕ) → r ≡ freeProcessPlace (tablesOf l) → r ≡ At i → i < 128
+pub free-process-below : (l : List ℕ) (i : ℕ) → freeProcessPlace (tablesOf l) ≡ At i → i < processPlaces
 unfolding freeProcessPlace
-free-process-below l r i e q =
-    let h = free-below (λ (p : Process). p .live) 0 i (tablesOf l .processes) (sym e ∙ q) in
+free-process-below l i e =
+    let h = free-below (λ (p : Process). p .live) 0 i (tablesOf l .processes) e in
     let k = length-processes l in
     omega arith
 
-pub free-namespace-below : (l : List ℕ) (r : Found) (i : ℕ) → r ≡ freeNamespacePlace (tablesOf l) → r ≡ At i → i < 64
+pub free-namespace-below : (l : List ℕ) (i : ℕ) → freeNamespacePlace (tablesOf l) ≡ At i → i < namespacePlaces
 unfolding freeNamespacePlace
-free-namespace-below l r i e q =
-    let h = free-below (λ (n : Namespace). n .live) 0 i (tablesOf l .namespaces) (sym e ∙ q) in
+free-namespace-below l i e =
+    let h = free-below (λ (n : Namespace). n .live) 0 i (tablesOf l .namespaces) e in
     let k = length-namespaces l in
     omega arith
+
+-- ---- what is free, as the code is told, with its number
+module _ (number : ℕ → ℕ) where
+  pub none-free : (f : Found) → Full ≡ numbered number f → f ≡ Nothing
+  none-free Nothing e = refl
+  none-free (At i) e = let z : _≡_ {A = ℕ} 0 1 = cc in absurd (omega arith)
+
+  pub free-at : (f : Found) (i n : ℕ) → Place i n ≡ numbered number f → (f ≡ At i) × (n ≡ number i)
+  free-at Nothing i n e = let z : _≡_ {A = ℕ} 0 1 = cc in absurd (omega arith)
+  free-at (At j) i n e = let a : i ≡ j = cc in let b : n ≡ number j = cc in (rw a, rw a b)

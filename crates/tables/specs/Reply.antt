@@ -3,11 +3,10 @@ use Prim.Native.Nat.{ℕ}
 use mathlib.Core.Path.{_≡_}
 use mathlib.Core.Bool.{Bool, true, false, cond}
 use mathlib.Core.List.{List}
-use lib.ListN.{replicate}
 use Rattle.tables.specs.declared.answer.Errno.{Errno}
 use Rattle.tables.specs.declared.answer.Errno.the-variants.{EPERM, ESRCH, EAGAIN, EINVAL, ENOSPC, ERANGE, EUSERS}
 use Rattle.tables.specs.declared.answer.Answer.{Answer}
-use Rattle.tables.specs.declared.answer.Answer.the-variants.{Refused, Done, Child, ChildIn, NewNamespace, Yes, No, Length, Id, Unmapped, Own}
+use Rattle.tables.specs.declared.answer.Answer.the-variants.{Refused, Done, Child, ChildIn, NewNamespace, Yes, No, Length, Id, Unmapped}
 use Rattle.tables.specs.declared.find.Found.{Found}
 use Rattle.tables.specs.declared.find.Found.the-variants.{At, Nothing}
 use Rattle.tables.specs.Tables.{State, tablesOf}
@@ -23,6 +22,7 @@ pub data Reply : Type 0 where
   -- a translation: an ID, or "unmapped", which is an answer and no refusal
   id : ℕ → Reply
   unmapped : Reply
+  -- a process's own IDs: real, effective and saved user ID, the same of the group, then its groups in order
   ids : List ℕ → Reply
 
 -- the numbers of document 01's table of refusals
@@ -46,7 +46,6 @@ replyOf No = no′
 replyOf (Length n) = bytes n
 replyOf (Id x) = id x
 replyOf Unmapped = unmapped
-replyOf Own = ids (replicate 6 0)
 
 -- what a call answers, and the tables that it leaves
 pub record Outcome : Type 0 where

@@ -1,14 +1,14 @@
 -- The tables as a caller thinks of them: document 01, 'What stands in the tables'. Assumes nothing.
-use Prim.Native.Nat.{ℕ}
+use Prim.Native.Nat.{ℕ, _+_, _-_, _*_}
 use mathlib.Core.List.{List, [], _∷_}
 use mathlib.Core.Bool.{true, false}
 use lib.ListN.{getD, set, replicate}
 use Rattle.capability.specs.Sets.{fullSet}
 use Rattle.idmap.specs.declared.Line.{Line}
 use Rattle.idmap.specs.Line.{noLine}
-use Rattle.idmap.specs.Good.{noId}
+use Rattle.idmap.specs.Good.{maxLines, noId}
 use Rattle.rows.specs.Rows.{rows}
-use Rattle.lifted_map.specs.Lift.{Lifted, liftedIn}
+use Rattle.lifted_map.specs.Lift.{Lifted, liftedWidth, liftedIn}
 use Rattle.records.specs.declared.Kind.{Kind}
 use Rattle.records.specs.declared.Kind.the-variants.{User, Group}
 use Rattle.records.specs.declared.Ids.{Ids}
@@ -16,7 +16,7 @@ use Rattle.records.specs.declared.Process.{Process}
 use Rattle.records.specs.declared.MapState.the-variants.{Written}
 use Rattle.records.specs.declared.IdMap.{IdMap}
 use Rattle.records.specs.declared.Namespace.{Namespace}
-use Rattle.records.specs.Records.{processOf, freeProcess, namespaceOf, freeNamespace}
+use Rattle.records.specs.Records.{maxGroups, processWidth, processOf, freeProcess, namespaceWidth, namespaceOf, freeNamespace}
 
 pub record State : Type 0 where
   pub processes : List Process
@@ -26,13 +26,38 @@ pub record State : Type 0 where
   pub liftedUsers : List Lifted
   pub liftedGroups : List Lifted
 
--- the tables that the words of the lent array hold: 128 places for processes, 64 for namespaces
+-- document 01: the process table has 128 places, and there are at most 64 namespaces
+abbrev pub processPlaces : ℕ
+processPlaces = 128
+
+abbrev pub namespacePlaces : ℕ
+namespacePlaces = 64
+
+-- where the tables start in the lent array, each behind the one before it
+abbrev pub processesAt : ℕ
+processesAt = 0
+
+abbrev pub namespacesAt : ℕ
+namespacesAt = processesAt + processPlaces * processWidth
+
+abbrev namespacesEnd : ℕ
+namespacesEnd = namespacesAt + namespacePlaces * namespaceWidth
+
+abbrev pub liftedMapsAt : Kind → ℕ
+liftedMapsAt User = namespacesEnd
+liftedMapsAt Group = namespacesEnd + namespacePlaces * liftedWidth
+
+-- the words of all of them
+abbrev pub tablesWidth : ℕ
+tablesWidth = liftedMapsAt Group + namespacePlaces * liftedWidth
+
+-- the tables that the words of the lent array hold
 unfoldable pub tablesOf : List ℕ → State
 tablesOf l = record {
-  processes = rows processOf 27 128 0 l;
-  namespaces = rows namespaceOf 39 64 3456 l;
-  liftedUsers = rows liftedIn 101 64 5952 l;
-  liftedGroups = rows liftedIn 101 64 12416 l;
+  processes = rows processOf processWidth processPlaces processesAt l;
+  namespaces = rows namespaceOf namespaceWidth namespacePlaces namespacesAt l;
+  liftedUsers = rows liftedIn liftedWidth namespacePlaces (liftedMapsAt User) l;
+  liftedGroups = rows liftedIn liftedWidth namespacePlaces (liftedMapsAt Group) l;
 }
 
 -- what stands in a place. A place past the end is free
@@ -95,7 +120,7 @@ firstProcess = record {
   namespace = 0;
   users = allZero;
   groups = allZero;
-  supplementary = record { count = 0; ids = replicate 16 0 };
+  supplementary = record { count = 0; ids = replicate maxGroups 0 };
   permitted = record { bits = fullSet };
   effective = record { bits = fullSet };
 }
@@ -105,7 +130,7 @@ abbrev pub fixedLine : Line
 fixedLine = record { inside = 0; parent = 0; count = noId }
 
 abbrev pub fixedMap : IdMap
-fixedMap = record { state = Written 1; lines = fixedLine ∷ replicate 4 noLine }
+fixedMap = record { state = Written 1; lines = fixedLine ∷ replicate (maxLines - 1) noLine }
 
 abbrev pub rootNamespace : Namespace
 rootNamespace = record { live = true; parent = 0; level = 0; owner = 0; users = fixedMap; groups = fixedMap; deny = false }
@@ -115,12 +140,12 @@ abbrev pub fixedLift : Lifted
 fixedLift = record { base = 0; lines = fixedLine ∷ [] }
 
 unfoldable pub firstLiftedMaps : List Lifted
-firstLiftedMaps = set (replicate 64 noLift) 0 fixedLift
+firstLiftedMaps = set (replicate namespacePlaces noLift) 0 fixedLift
 
 unfoldable pub initialTables : State
 initialTables = record {
-  processes = set (replicate 128 freeProcess) 0 firstProcess;
-  namespaces = set (replicate 64 freeNamespace) 0 rootNamespace;
+  processes = set (replicate processPlaces freeProcess) 0 firstProcess;
+  namespaces = set (replicate namespacePlaces freeNamespace) 0 rootNamespace;
   liftedUsers = firstLiftedMaps;
   liftedGroups = firstLiftedMaps;
 }

@@ -1,4 +1,5 @@
-// What a call answers: document 01's answers, and its refusals under Linux' names.
+// What a call answers: document 01's answers but a process's own IDs, which have a type of their own, and its refusals under
+// Linux' names.
 pub enum Errno {
     EPERM,
     ESRCH,
@@ -21,6 +22,4 @@ pub enum Answer {
     // A translation: an ID, or that it has none.
     Id(u32),
     Unmapped,
-    // The process's own IDs, which stand beside the answer.
-    Own,
 }

@@ -2,17 +2,22 @@
 ghost use mathlib.Core.Path.{_≡_};
 ghost use Rattle.lifted_map.specs.Lift.{liftedIn};
 ghost use Rattle.tables.specs.Tables.{tablesOf, firstProcess, fixedMap, fixedLift, rootNamespace, firstLiftedMaps, initialTables, withProcesses, withNamespaces, withLiftedMaps};
+use crate::NAMESPACE_PLACES;
+use crate::PROCESS_PLACES;
 use crate::Tables;
 use crate::lifted_maps::lifted_map_put;
 use crate::namespaces::namespace_put;
 use crate::processes::process_put;
 use capability::CapabilitySet;
 use idmap::Line;
+use idmap::NO_ID;
+use lifted_map::LIFTED_WIDTH;
 use lifted_map::LiftedMap;
 use records::GroupList;
 use records::IdMap;
 use records::Ids;
 use records::Kind;
+use records::MAX_GROUPS;
 use records::MapState;
 use records::Namespace;
 use records::Process;
@@ -34,7 +39,7 @@ fn first_process() -> Process
         groups: none,
         supplementary: GroupList {
             count: 0,
-            ids: [0; 16],
+            ids: [0; MAX_GROUPS],
         },
         permitted: CapabilitySet::FULL,
         effective: CapabilitySet::FULL,
@@ -47,7 +52,7 @@ fn fixed_map() -> IdMap
     let fixed = Line {
         inside: 0,
         parent: 0,
-        count: 4294967295,
+        count: NO_ID,
     };
     let none = Line {
         inside: 0,
@@ -80,9 +85,9 @@ fn fill_processes(t: &mut Tables)
     ensures { λ r. ⌜ tablesOf (now (t .exit)) ≡ withProcesses (tablesOf (now (t .entry))) (initialTables .processes) ⌝ }
 {
     let free = free_process();
-    let mut places = [free; 128];
+    let mut places = [free; PROCESS_PLACES];
     places[0] = first_process();
-    for i in 0..128usize {
+    for i in 0..PROCESS_PLACES {
         let p = places[i];
         process_put(t, i, p);
     }
@@ -93,7 +98,7 @@ fn fill_namespaces(t: &mut Tables)
     ensures { λ r. ⌜ tablesOf (now (t .exit)) ≡ withNamespaces (tablesOf (now (t .entry))) (initialTables .namespaces) ⌝ }
 {
     let free = free_namespace();
-    for i in 0..64usize {
+    for i in 0..NAMESPACE_PLACES {
         namespace_put(t, i, free);
     }
     namespace_put(t, 0, root_namespace());
@@ -102,9 +107,9 @@ fn fill_namespaces(t: &mut Tables)
 fn fixed_lifted_map() -> LiftedMap
     ensures { λ r. ⌜ liftedIn r ≡ fixedLift ⌝ }
 {
-    let mut map: LiftedMap = [0; 101];
+    let mut map: LiftedMap = [0; LIFTED_WIDTH];
     map[0] = 1;
-    map[4] = 4294967295;
+    map[4] = NO_ID as u64;
     map
 }
 
@@ -112,8 +117,8 @@ fn fixed_lifted_map() -> LiftedMap
 fn fill_lifted_maps(t: &mut Tables, kind: Kind)
     ensures { λ r. ⌜ tablesOf (now (t .exit)) ≡ withLiftedMaps (tablesOf (now (t .entry))) kind firstLiftedMaps ⌝ }
 {
-    let none: LiftedMap = [0; 101];
-    for i in 0..64usize {
+    let none: LiftedMap = [0; LIFTED_WIDTH];
+    for i in 0..NAMESPACE_PLACES {
         lifted_map_put(t, kind, i, &none);
     }
     let fixed = fixed_lifted_map();

@@ -7,5 +7,25 @@ pub mod lifted_maps;
 pub mod namespaces;
 pub mod processes;
 
-// 128 rows of 27 words for processes, 64 rows of 39 words for namespaces, then 64 rows of 101 words for lifted maps of users and as many for groups.
-pub type Tables = [u64; 18880];
+use lifted_map::LIFTED_WIDTH;
+use records::namespaces::NAMESPACE_WIDTH;
+use records::processes::PROCESS_WIDTH;
+
+// The places for processes, and those for namespaces.
+pub const PROCESS_PLACES: usize = 128;
+
+pub const NAMESPACE_PLACES: usize = 64;
+
+// Where the tables start in the array: the processes, the namespaces, their lifted maps of users and those of groups.
+const PROCESSES_AT: usize = 0;
+
+const NAMESPACES_AT: usize = PROCESSES_AT + PROCESS_PLACES * PROCESS_WIDTH;
+
+const LIFTED_USERS_AT: usize = NAMESPACES_AT + NAMESPACE_PLACES * NAMESPACE_WIDTH;
+
+const LIFTED_GROUPS_AT: usize = LIFTED_USERS_AT + NAMESPACE_PLACES * LIFTED_WIDTH;
+
+// The words of all of them.
+pub const TABLES_WIDTH: usize = LIFTED_GROUPS_AT + NAMESPACE_PLACES * LIFTED_WIDTH;
+
+pub type Tables = [u64; TABLES_WIDTH];

@@ -3,11 +3,16 @@ ghost use mathlib.Core.Path.{_≡_};
 ghost use Rattle.idmap.specs.Line.{linesIn};
 ghost use Rattle.records.specs.Records.{mapIn, linesOf};
 ghost use Rattle.tables.specs.Tables.{tablesOf, namespaceAt, putNamespace};
+use crate::NAMESPACE_PLACES;
+use crate::NAMESPACES_AT;
 use crate::Tables;
 use records::Kind;
 use records::Namespace;
+use records::namespaces::MAP_WIDTH;
+use records::namespaces::NAMESPACE_WIDTH;
 use records::namespaces::free_namespace;
 use records::namespaces::lines_of;
+use records::namespaces::map_at;
 use records::namespaces::namespace_of;
 use records::namespaces::namespace_words;
 
@@ -15,8 +20,8 @@ use records::namespaces::namespace_words;
 pub fn namespace_at(t: &Tables, place: usize) -> Namespace
     ensures { λ r. ⌜ r ≡ namespaceAt (tablesOf (now (t .entry))) place ⌝ }
 {
-    if place < 64 {
-        namespace_of(rows::get(t, 3456 + place * 39, 39))
+    if place < NAMESPACE_PLACES {
+        namespace_of(rows::get(t, NAMESPACES_AT + place * NAMESPACE_WIDTH, NAMESPACE_WIDTH))
     } else {
         free_namespace()
     }
@@ -26,9 +31,9 @@ pub fn namespace_at(t: &Tables, place: usize) -> Namespace
 pub fn namespace_put(t: &mut Tables, place: usize, n: Namespace)
     ensures { λ r. ⌜ tablesOf (now (t .exit)) ≡ putNamespace (tablesOf (now (t .entry))) place n ⌝ }
 {
-    if place < 64 {
+    if place < NAMESPACE_PLACES {
         let row = namespace_words(n);
-        rows::put(t, 3456 + place * 39, &row);
+        rows::put(t, NAMESPACES_AT + place * NAMESPACE_WIDTH, &row);
     }
 }
 
@@ -36,11 +41,12 @@ pub fn namespace_put(t: &mut Tables, place: usize, n: Namespace)
 pub fn map_lines(t: &Tables, place: usize, kind: Kind) -> &[u64]
     ensures { λ r. ⌜ linesIn (now r) ≡ linesOf (mapIn kind (namespaceAt (tablesOf (now (t .entry))) place)) ⌝ }
 {
-    if 64 <= place {
+    if NAMESPACE_PLACES <= place {
         return rows::get(t, 0, 0);
     }
-    match kind {
-        Kind::User => lines_of(rows::get(t, 3460 + place * 39, 17)),
-        Kind::Group => lines_of(rows::get(t, 3477 + place * 39, 17)),
-    }
+    lines_of(rows::get(
+        t,
+        NAMESPACES_AT + place * NAMESPACE_WIDTH + map_at(kind),
+        MAP_WIDTH,
+    ))
 }

@@ -1,8 +1,11 @@
 // The process table.
 ghost use mathlib.Core.Path.{_≡_};
 ghost use Rattle.tables.specs.Tables.{tablesOf, processAt, putProcess};
+use crate::PROCESS_PLACES;
+use crate::PROCESSES_AT;
 use crate::Tables;
 use records::Process;
+use records::processes::PROCESS_WIDTH;
 use records::processes::free_process;
 use records::processes::process_of;
 use records::processes::process_words;
@@ -11,8 +14,8 @@ use records::processes::process_words;
 pub fn process_at(t: &Tables, place: usize) -> Process
     ensures { λ r. ⌜ r ≡ processAt (tablesOf (now (t .entry))) place ⌝ }
 {
-    if place < 128 {
-        process_of(rows::get(t, place * 27, 27))
+    if place < PROCESS_PLACES {
+        process_of(rows::get(t, PROCESSES_AT + place * PROCESS_WIDTH, PROCESS_WIDTH))
     } else {
         free_process()
     }
@@ -22,8 +25,8 @@ pub fn process_at(t: &Tables, place: usize) -> Process
 pub fn process_put(t: &mut Tables, place: usize, p: Process)
     ensures { λ r. ⌜ tablesOf (now (t .exit)) ≡ putProcess (tablesOf (now (t .entry))) place p ⌝ }
 {
-    if place < 128 {
+    if place < PROCESS_PLACES {
         let row = process_words(p);
-        rows::put(t, place * 27, &row);
+        rows::put(t, PROCESSES_AT + place * PROCESS_WIDTH, &row);
     }
 }

@@ -1,10 +1,9 @@
 -- `tables::find::free_namespace_place` meets its contract. Assumes nothing.
 use mathlib.Core.Path.{_≡_}
 use Prim.Native.Nat.{_-_}
-use Rattle.tables.specs.Tables.{tablesOf}
+use Rattle.tables.specs.Tables.{namespacePlaces, tablesOf}
 use Rattle.tables.specs.Find.{freeNamespacePlace}
-use Rattle.tables.proofs.Finding.{namespacesFrom}
-use Rattle.tables.proofs.Finding.{finding}
+use Rattle.tables.proofs.Finding.{namespacesFrom, finding}
 use Rattle.tables.proofs.find.free_namespace_place.Statement.{statement}
 use Rattle.tables.proofs.find.free_namespace_place.Tie as tie
 
@@ -12,7 +11,7 @@ abbrev Inv-loop : tie.InvT-loop
 Inv-loop t i₀ i = freeNamespacePlace (tablesOf t) ≡ namespacesFrom (tablesOf t) i
 
 abbrev μ-loop : tie.MeasureT-loop
-μ-loop t i₀ i = 64 - i
+μ-loop t i₀ i = namespacePlaces - i
 
 pub free-namespace-place-spec : {M : Type 1} → statement M
 free-namespace-place-spec =
@@ -22,5 +21,6 @@ free-namespace-place-spec =
     (λ c. search finding)  -- add-i
     (λ c. search finding)  -- loop-less
     (λ c. search finding)  -- loop-again
+    (λ c κs. search finding)  -- namespace-number-requires
     (λ c. search finding)  -- returns
     (λ c. search finding))  -- returns-2

@@ -1,10 +1,9 @@
 -- `tables::find::free_process_place` meets its contract. Assumes nothing.
 use mathlib.Core.Path.{_≡_}
 use Prim.Native.Nat.{_-_}
-use Rattle.tables.specs.Tables.{tablesOf}
+use Rattle.tables.specs.Tables.{processPlaces, tablesOf}
 use Rattle.tables.specs.Find.{freeProcessPlace}
-use Rattle.tables.proofs.Finding.{processesFrom}
-use Rattle.tables.proofs.Finding.{finding}
+use Rattle.tables.proofs.Finding.{processesFrom, finding}
 use Rattle.tables.proofs.find.free_process_place.Statement.{statement}
 use Rattle.tables.proofs.find.free_process_place.Tie as tie
 
@@ -12,7 +11,7 @@ abbrev Inv-loop : tie.InvT-loop
 Inv-loop t i₀ i = freeProcessPlace (tablesOf t) ≡ processesFrom (tablesOf t) i
 
 abbrev μ-loop : tie.MeasureT-loop
-μ-loop t i₀ i = 128 - i
+μ-loop t i₀ i = processPlaces - i
 
 pub free-process-place-spec : {M : Type 1} → statement M
 free-process-place-spec =
@@ -22,5 +21,6 @@ free-process-place-spec =
     (λ c. search finding)  -- add-i
     (λ c. search finding)  -- loop-less
     (λ c. search finding)  -- loop-again
+    (λ c κs. search finding)  -- process-number-requires
     (λ c. search finding)  -- returns
     (λ c. search finding))  -- returns-2

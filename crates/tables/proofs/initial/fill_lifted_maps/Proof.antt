@@ -2,17 +2,17 @@
 use mathlib.Core.Path.{_≡_}
 use Prim.Native.Nat.{_≤_, _-_}
 use Rattle.lifted_map.specs.Lift.{liftedIn}
-use Rattle.tables.specs.Tables.{tablesOf, noLift}
+use Rattle.tables.specs.Tables.{namespacePlaces, tablesOf, noLift}
 use Rattle.tables.proofs.Filling.{liftedMapsIn}
 use Rattle.tables.proofs.Filling.{filling}
 use Rattle.tables.proofs.initial.fill_lifted_maps.Statement.{statement}
 use Rattle.tables.proofs.initial.fill_lifted_maps.Tie as tie
 
 abbrev Inv-loop : tie.InvT-loop
-Inv-loop t₀ kind none i₀ t i = (i ≤ 64) × (liftedIn none ≡ noLift) × (tablesOf t ≡ liftedMapsIn (tablesOf t₀) kind i)
+Inv-loop t₀ kind none i₀ t i = (i ≤ namespacePlaces) × (liftedIn none ≡ noLift) × (tablesOf t ≡ liftedMapsIn (tablesOf t₀) kind i)
 
 abbrev μ-loop : tie.MeasureT-loop
-μ-loop t₀ kind none i₀ t i = 64 - i
+μ-loop t₀ kind none i₀ t i = namespacePlaces - i
 
 pub fill-lifted-maps-spec : {M : Type 1} → statement M
 fill-lifted-maps-spec =

@@ -2,17 +2,17 @@
 use mathlib.Core.Path.{_≡_}
 use Prim.Native.Nat.{_≤_, _-_}
 use Rattle.records.specs.Records.{freeNamespace}
-use Rattle.tables.specs.Tables.{tablesOf}
+use Rattle.tables.specs.Tables.{namespacePlaces, tablesOf}
 use Rattle.tables.proofs.Filling.{namespacesIn}
 use Rattle.tables.proofs.Filling.{filling}
 use Rattle.tables.proofs.initial.fill_namespaces.Statement.{statement}
 use Rattle.tables.proofs.initial.fill_namespaces.Tie as tie
 
 abbrev Inv-loop : tie.InvT-loop
-Inv-loop t₀ free i₀ t i = (i ≤ 64) × (free ≡ freeNamespace) × (tablesOf t ≡ namespacesIn (tablesOf t₀) i)
+Inv-loop t₀ free i₀ t i = (i ≤ namespacePlaces) × (free ≡ freeNamespace) × (tablesOf t ≡ namespacesIn (tablesOf t₀) i)
 
 abbrev μ-loop : tie.MeasureT-loop
-μ-loop t₀ free i₀ t i = 64 - i
+μ-loop t₀ free i₀ t i = namespacePlaces - i
 
 pub fill-namespaces-spec : {M : Type 1} → statement M
 fill-namespaces-spec =

@@ -2,16 +2,16 @@
 use mathlib.Core.Path.{_≡_}
 use Prim.Native.Nat.{_≤_, _-_}
 use borrow.Author.Needs.{needs}
-use Rattle.tables.specs.Tables.{tablesOf, initialTables}
+use Rattle.tables.specs.Tables.{processPlaces, tablesOf, initialTables}
 use Rattle.tables.proofs.Filling.{processesIn, processes-more, filling}
 use Rattle.tables.proofs.initial.fill_processes.Statement.{statement}
 use Rattle.tables.proofs.initial.fill_processes.Tie as tie
 
 abbrev Inv-loop : tie.InvT-loop
-Inv-loop t₀ places i₀ t i = (i ≤ 128) × (places ≡ initialTables .processes) × (tablesOf t ≡ processesIn (tablesOf t₀) i)
+Inv-loop t₀ places i₀ t i = (i ≤ processPlaces) × (places ≡ initialTables .processes) × (tablesOf t ≡ processesIn (tablesOf t₀) i)
 
 abbrev μ-loop : tie.MeasureT-loop
-μ-loop t₀ places i₀ t i = 128 - i
+μ-loop t₀ places i₀ t i = processPlaces - i
 
 loop-again : tie.Need-loop-again Inv-loop μ-loop
 loop-again c =

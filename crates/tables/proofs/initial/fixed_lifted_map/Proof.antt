@@ -7,5 +7,6 @@ pub fixed-lifted-map-spec : {M : Type 1} → statement M
 fixed-lifted-map-spec =
     tie.close (tie.spec
     (λ c. search filling)  -- array-write-map
+    (λ c. search filling)  -- cast-map
     (λ c. search filling)  -- array-write-map-2
     (λ c. search filling))  -- returns

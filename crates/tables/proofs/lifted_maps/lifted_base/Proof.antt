@@ -7,15 +7,7 @@ pub lifted-base-spec : {M : Type 1} → statement M
 lifted-base-spec =
     tie.close (tie.spec
     (λ c. search lifted)  -- returns
-    (λ c. search lifted)  -- enum-told
-    (λ c. search lifted)  -- mul-get
-    (λ c. search lifted)  -- add-get
+    (λ c κs. search lifted)  -- row-at-requires
     (λ c κs. search lifted)  -- get-requires
     (λ c κs. search lifted)  -- base-in-requires
-    (λ c. search lifted)  -- enum-told-2
-    (λ c. search lifted)  -- mul-get-2
-    (λ c. search lifted)  -- add-get-2
-    (λ c κs. search lifted)  -- get-requires-2
-    (λ c κs. search lifted)  -- base-in-requires-2
-    (λ c. search lifted)  -- returns-2
-    (λ c. search lifted))  -- returns-3
+    (λ c. search lifted))  -- returns-2

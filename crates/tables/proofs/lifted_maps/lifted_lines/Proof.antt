@@ -8,15 +8,7 @@ lifted-lines-spec =
     tie.close (tie.spec
     (λ c κs. search lifted)  -- get-requires
     (λ c. search lifted)  -- returns
-    (λ c. search lifted)  -- enum-told
-    (λ c. search lifted)  -- mul-get
-    (λ c. search lifted)  -- add-get
+    (λ c κs. search lifted)  -- row-at-requires
     (λ c κs. search lifted)  -- get-requires-2
     (λ c κs. search lifted)  -- lines-in-requires
-    (λ c. search lifted)  -- enum-told-2
-    (λ c. search lifted)  -- mul-get-2
-    (λ c. search lifted)  -- add-get-2
-    (λ c κs. search lifted)  -- get-requires-3
-    (λ c κs. search lifted)  -- lines-in-requires-2
-    (λ c. search lifted)  -- returns-2
-    (λ c. search lifted))  -- returns-3
+    (λ c. search lifted))  -- returns-2

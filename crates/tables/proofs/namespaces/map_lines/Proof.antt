@@ -8,15 +8,10 @@ map-lines-spec =
     tie.close (tie.spec
     (λ c κs. search lines)  -- get-requires
     (λ c. search lines)  -- returns
-    (λ c. search lines)  -- enum-told
     (λ c. search lines)  -- mul-get
     (λ c. search lines)  -- add-get
+    (λ c κs. search lines)  -- map-at-requires
+    (λ c. search lines)  -- add-get-2
     (λ c κs. search lines)  -- get-requires-2
     (λ c κs. search lines)  -- lines-of-requires
-    (λ c. search lines)  -- enum-told-2
-    (λ c. search lines)  -- mul-get-2
-    (λ c. search lines)  -- add-get-2
-    (λ c κs. search lines)  -- get-requires-3
-    (λ c κs. search lines)  -- lines-of-requires-2
-    (λ c. search lines)  -- returns-2
-    (λ c. search lines))  -- returns-3
+    (λ c. search lines))  -- returns-2

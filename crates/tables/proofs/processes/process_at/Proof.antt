@@ -7,6 +7,7 @@ pub process-at-spec : {M : Type 1} → statement M
 process-at-spec =
     tie.close (tie.spec
     (λ c. search loads)  -- mul-get
+    (λ c. search loads)  -- add-get
     (λ c κs. search loads)  -- get-requires
     (λ c κs. search loads)  -- process-of-requires
     (λ c κs. search loads)  -- free-process-requires

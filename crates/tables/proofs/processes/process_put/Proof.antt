@@ -8,6 +8,7 @@ process-put-spec =
     tie.close (tie.spec
     (λ c κs. search stores)  -- process-words-requires
     (λ c. search stores)  -- mul-put
+    (λ c. search stores)  -- add-put
     (λ c. search stores)  -- slice-aggregate-put
     (λ c κs. search stores)  -- put-requires
     (λ c. search stores)  -- returns

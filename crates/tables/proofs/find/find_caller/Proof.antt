@@ -1,10 +1,10 @@
--- `tables::find::find_process` meets its contract. Assumes nothing.
+-- `tables::find::find_caller` meets its contract. Assumes nothing.
 use Rattle.tables.proofs.Finding.{finding}
-use Rattle.tables.proofs.find.find_process.Statement.{statement}
-use Rattle.tables.proofs.find.find_process.Tie as tie
+use Rattle.tables.proofs.find.find_caller.Statement.{statement}
+use Rattle.tables.proofs.find.find_caller.Tie as tie
 
-pub find-process-spec : {M : Type 1} → statement M
-find-process-spec =
+pub find-caller-spec : {M : Type 1} → statement M
+find-caller-spec =
     tie.close (tie.spec
     (λ c. search finding)  -- returns
     (λ c. search finding)  -- sub-place
