@@ -20,7 +20,7 @@ use Rattle.lifted_map.specs.Lift.{Lifted}
 use Rattle.tables.specs.Tables.{State, liftedAt}
 use Rattle.hierarchy.specs.declared.batch.Known.{Known}
 use Rattle.hierarchy.specs.Walks.{itself}
-use Rattle.hierarchy.specs.Lifted.{outIn, toKernelBy, toKernel, fromKernelBy, fromKernel}
+use Rattle.hierarchy.specs.Lifted.{stepsAbove, outIn, toKernelBy, toKernel, fromKernelBy, fromKernel}
 use Rattle.hierarchy.specs.Batch.{turnedBy, orElse, eachBy, toKernelEach, fromKernelEach, knownBy}
 use Rattle.hierarchy.proofs.Translations.{own, to-first, from-first, to-kernel-root, from-kernel-root}
 
@@ -82,11 +82,11 @@ module _ (f : ℕ → Translated) (other : ℕ) (ids : List ℕ) where
   singly-all r i inv long same h = copy-all (map (λ (x : ℕ). idOr other (f x)) ids) r i 20 inv long (length-map ids (λ (x : ℕ). idOr other (f x)) ∙ same) h
 
 -- ---- or_else, without_no_id
-pub or-other : (other id found : ℕ) → id ≡ 4294967295 → other ≡ orElse other id found
-or-other other id found e = rw (eq-eqb id 4294967295 e)
+pub or-other : (other id found : ℕ) → id ≡ noId → other ≡ orElse other id found
+or-other other id found e = rw (eq-eqb id noId e)
 
-pub or-found : (other id found : ℕ) → (id ≡ 4294967295 → ⊥) → found ≡ orElse other id found
-or-found other id found e = rw (ne-eqb id 4294967295 e)
+pub or-found : (other id found : ℕ) → (id ≡ noId → ⊥) → found ≡ orElse other id found
+or-found other id found e = rw (ne-eqb id noId e)
 
 pub OrElseTo : ℕ → List ℕ → List ℕ → List ℕ → ℕ → Type 0
 OrElseTo other ids found r i = take i r ≡ take i (zipWith (orElse other) ids found)
@@ -187,7 +187,7 @@ module _ (s : State) (kind : Kind) where
   unfolding toKernel toKernelBy
   known-kernel n x =
       cond-elim Known-id (eqb n 0) (known-itself x)
-      (known-then (out (liftedAt s kind n .lines) x) (λ y. outIn s kind 31 (liftedAt s kind n .base) y) (λ y. known-out 31 (liftedAt s kind n .base) y))
+      (known-then (out (liftedAt s kind n .lines) x) (λ y. outIn s kind stepsAbove (liftedAt s kind n .base) y) (λ y. known-out stepsAbove (liftedAt s kind n .base) y))
 
 pub ruleset translating = (
   turned-back,

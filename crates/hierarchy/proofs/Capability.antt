@@ -9,16 +9,16 @@ use borrow.Author.Tests.{eq-eqb, ne-eqb}
 use Rattle.capability.specs.Sets.{holds}
 use Rattle.records.specs.declared.Process.{Process}
 use Rattle.records.specs.declared.Namespace.{Namespace}
-use Rattle.tables.specs.Tables.{State, namespaceAt}
+use Rattle.tables.specs.Tables.{State, maxLevel, namespaceAt}
 use Rattle.hierarchy.specs.Walks.{heightOf, ownedBy, holdsIn, capableIn}
 
 -- ---- height
 module _ (s : State) (place : ℕ) (n : Namespace) (read : n ≡ namespaceAt s place) where
-  pub height-level : n .level < 32 → n .level ≡ heightOf s place
+  pub height-level : n .level < maxLevel → n .level ≡ heightOf s place
   unfolding heightOf
   height-level h = rw (← read) (omega arith)
 
-  pub height-most : 32 ≤ n .level → 32 ≡ heightOf s place
+  pub height-most : maxLevel ≤ n .level → maxLevel ≡ heightOf s place
   unfolding heightOf
   height-most h = rw (← read) (omega arith)
 

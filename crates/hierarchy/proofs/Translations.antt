@@ -11,20 +11,21 @@ use Rattle.idmap.specs.declared.Translated.the-variants.{Id, Unmapped}
 use Rattle.idmap.specs.Lookup.{out, thenId, back}
 use Rattle.records.specs.declared.Kind.{Kind}
 use Rattle.lifted_map.specs.Lift.{Lifted}
+use Rattle.idmap.specs.Good.{noId}
 use Rattle.tables.specs.Tables.{State, liftedAt}
 use Rattle.hierarchy.specs.Walks.{itself}
-use Rattle.hierarchy.specs.Lifted.{outIn, toKernelBy, toKernel, backIn, fromKernelBy, fromKernel}
+use Rattle.hierarchy.specs.Lifted.{stepsAbove, outIn, toKernelBy, toKernel, backIn, fromKernelBy, fromKernel}
 
 -- ---- the initial namespace
-pub itself-none : (x : ℕ) → x ≡ 4294967295 → Unmapped ≡ itself x
-itself-none x e = rw (eq-eqb x 4294967295 e)
+pub itself-none : (x : ℕ) → x ≡ noId → Unmapped ≡ itself x
+itself-none x e = rw (eq-eqb x noId e)
 
-pub itself-same : (x : ℕ) → (x ≡ 4294967295 → ⊥) → Id x ≡ itself x
-itself-same x e = rw (ne-eqb x 4294967295 e)
+pub itself-same : (x : ℕ) → (x ≡ noId → ⊥) → Id x ≡ itself x
+itself-same x e = rw (ne-eqb x noId e)
 
 -- ---- going out: the answer at each way out of a turn, and that a turn keeps it
 module _ (s : State) (kind : Kind) where
-  pub out-starts : (n x : ℕ) → outIn s kind 31 n x ≡ outIn s kind 31 n x
+  pub out-starts : (n x : ℕ) → outIn s kind stepsAbove n x ≡ outIn s kind stepsAbove n x
   out-starts n x = refl
 
   out-root : (k n x : ℕ) → n ≡ 0 → outIn s kind k n x ≡ itself x
@@ -63,7 +64,7 @@ module _ (s : State) (kind : Kind) where
     -- to the initial namespace, at once
     pub to-first : (n ≡ 0 → ⊥) → b ≤ 0 → toKernelBy s kind (record { base = b; lines = ls }) n x ≡ thenId (out ls x) itself
     unfolding toKernelBy
-    to-first below h = rw (ne-eqb n 0 below) (ap (thenId (out ls x)) (λ i y. out-root 31 b y (omega arith) i))
+    to-first below h = rw (ne-eqb n 0 below) (ap (thenId (out ls x)) (λ i y. out-root stepsAbove b y (omega arith) i))
 
     module _ (below : n ≡ 0 → ⊥) (f : Translated) (found : f ≡ out ls x) where
       pub to-none : f ≡ Unmapped → Unmapped ≡ toKernelBy s kind (record { base = b; lines = ls }) n x
@@ -72,9 +73,9 @@ module _ (s : State) (kind : Kind) where
 
       pub to-once : (y : ℕ) → f ≡ Id y → b ≡ 0 → r ≡ itself y → r ≡ toKernelBy s kind (record { base = b; lines = ls }) n x
       unfolding toKernelBy
-      to-once y e z q = q ∙ sym (rw (ne-eqb n 0 below, ← found, e) (out-root 31 b y z))
+      to-once y e z q = q ∙ sym (rw (ne-eqb n 0 below, ← found, e) (out-root stepsAbove b y z))
 
-      pub to-on : (y : ℕ) → f ≡ Id y → r ≡ outIn s kind 31 b y → r ≡ toKernelBy s kind (record { base = b; lines = ls }) n x
+      pub to-on : (y : ℕ) → f ≡ Id y → r ≡ outIn s kind stepsAbove b y → r ≡ toKernelBy s kind (record { base = b; lines = ls }) n x
       unfolding toKernelBy
       to-on y e q = q ∙ sym (rw (ne-eqb n 0 below, ← found, e))
 
@@ -115,20 +116,20 @@ module _ (s : State) (kind : Kind) where
     from-root r z e = e ∙ sym (rw (eq-eqb n 0 z))
 
     module _ (below : n ≡ 0 → ⊥) where
-      pub from-lower : (r : Translated) → r ≡ thenId (backIn s kind 31 b y) (back ls) → r ≡ fromKernelBy s kind (record { base = b; lines = ls }) n y
+      pub from-lower : (r : Translated) → r ≡ thenId (backIn s kind stepsAbove b y) (back ls) → r ≡ fromKernelBy s kind (record { base = b; lines = ls }) n y
       unfolding fromKernelBy
       from-lower r e = e ∙ sym (rw (ne-eqb n 0 below))
 
       -- from the initial namespace, at once
       pub from-first : b ≤ 0 → fromKernelBy s kind (record { base = b; lines = ls }) n y ≡ thenId (itself y) (back ls)
       unfolding fromKernelBy
-      from-first h = rw (ne-eqb n 0 below) (ap (λ (t : Translated). thenId t (back ls)) (back-root 31 b y (omega arith)))
+      from-first h = rw (ne-eqb n 0 below) (ap (λ (t : Translated). thenId t (back ls)) (back-root stepsAbove b y (omega arith)))
 
-      pub from-no-id : b ≤ 0 → y ≡ 4294967295 → Unmapped ≡ fromKernelBy s kind (record { base = b; lines = ls }) n y
-      from-no-id h e = sym (from-first h ∙ rw (eq-eqb y 4294967295 e))
+      pub from-no-id : b ≤ 0 → y ≡ noId → Unmapped ≡ fromKernelBy s kind (record { base = b; lines = ls }) n y
+      from-no-id h e = sym (from-first h ∙ rw (eq-eqb y noId e))
 
-      pub from-once : (r : Translated) → b ≤ 0 → (y ≡ 4294967295 → ⊥) → r ≡ back ls y → r ≡ fromKernelBy s kind (record { base = b; lines = ls }) n y
-      from-once r h e q = q ∙ sym (from-first h ∙ rw (ne-eqb y 4294967295 e))
+      pub from-once : (r : Translated) → b ≤ 0 → (y ≡ noId → ⊥) → r ≡ back ls y → r ≡ fromKernelBy s kind (record { base = b; lines = ls }) n y
+      from-once r h e q = q ∙ sym (from-first h ∙ rw (ne-eqb y noId e))
 
 -- ---- from_base
 pub then-none : (ls : List Line) (f g : Translated) → f ≡ g → f ≡ Unmapped → Unmapped ≡ thenId g (back ls)

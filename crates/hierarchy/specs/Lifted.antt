@@ -1,6 +1,6 @@
 -- Translation by lifted maps: what the code does. NOT to be believed: that on tables which calls leave it is `byLevels`, document 01's, for every kind,
 -- namespace and number, is proved (`AsDocument` of claims). Assumes nothing.
-use Prim.Native.Nat.{ℕ, zero, suc}
+use Prim.Native.Nat.{ℕ, zero, suc, _-_}
 use mathlib.Core.Bool.{cond}
 use mathlib.Core.List.{List}
 use lib.Dec.{eqb}
@@ -10,7 +10,7 @@ use Rattle.idmap.specs.declared.Translated.the-variants.{Unmapped}
 use Rattle.idmap.specs.Lookup.{out, thenId, back}
 use Rattle.records.specs.declared.Kind.{Kind}
 use Rattle.lifted_map.specs.Lift.{Lifted, liftedOf}
-use Rattle.tables.specs.Tables.{State, namespaceAt, liftedAt, putLiftedMap}
+use Rattle.tables.specs.Tables.{State, maxLevel, namespaceAt, liftedAt, putLiftedMap}
 use Rattle.hierarchy.specs.Walks.{Translation, itself}
 
 -- going out by lifted maps, from namespace n to namespace 0, in k steps at most
@@ -18,10 +18,13 @@ unfoldable pub outIn : State → Kind → ℕ → ℕ → ℕ → Translated
 outIn s kind zero n x = cond (eqb n 0) (itself x) Unmapped
 outIn s kind (suc k) n x = cond (eqb n 0) (itself x) (thenId (out (liftedAt s kind n .lines) x) (λ y. outIn s kind k (liftedAt s kind n .base) y))
 
--- the kernel ID (document 01: station-wide ID) that an ID of namespace n stands for, by the namespace's lifted map m. A step goes up one level at
--- least, so 31 more are enough
+-- the most steps that are left behind the first one: each goes up one level at least
+abbrev pub stepsAbove : ℕ
+stepsAbove = maxLevel - 1
+
+-- the kernel ID (document 01: station-wide ID) that an ID of namespace n stands for, by the namespace's lifted map m
 unfoldable pub toKernelBy : State → Kind → Lifted → ℕ → ℕ → Translated
-toKernelBy s kind m n x = cond (eqb n 0) (itself x) (thenId (out (m .lines) x) (λ y. outIn s kind 31 (m .base) y))
+toKernelBy s kind m n x = cond (eqb n 0) (itself x) (thenId (out (m .lines) x) (λ y. outIn s kind stepsAbove (m .base) y))
 
 unfoldable pub toKernel : State → Kind → ℕ → ℕ → Translated
 toKernel s kind n x = toKernelBy s kind (liftedAt s kind n) n x
@@ -33,7 +36,7 @@ backIn s kind (suc k) n y = cond (eqb n 0) (itself y) (thenId (backIn s kind k (
 
 -- the ID of namespace n that stands for a kernel ID, by the namespace's lifted map m
 unfoldable pub fromKernelBy : State → Kind → Lifted → ℕ → ℕ → Translated
-fromKernelBy s kind m n y = cond (eqb n 0) (itself y) (thenId (backIn s kind 31 (m .base) y) (λ z. back (m .lines) z))
+fromKernelBy s kind m n y = cond (eqb n 0) (itself y) (thenId (backIn s kind stepsAbove (m .base) y) (λ z. back (m .lines) z))
 
 unfoldable pub fromKernel : State → Kind → ℕ → ℕ → Translated
 fromKernel s kind n y = fromKernelBy s kind (liftedAt s kind n) n y

@@ -9,11 +9,11 @@ use Rattle.idmap.specs.Good.{noId}
 use Rattle.records.specs.declared.Kind.{Kind}
 use Rattle.records.specs.declared.Process.{Process}
 use Rattle.records.specs.declared.Namespace.{Namespace}
-use Rattle.tables.specs.Tables.{State, namespaceAt}
+use Rattle.tables.specs.Tables.{State, maxLevel, namespaceAt}
 
--- how many steps lead from a namespace to the initial one: its level, which reaches 32 at most
+-- how many steps lead from a namespace to the initial one: its level, which reaches `maxLevel` at most
 unfoldable pub heightOf : State → ℕ → ℕ
-heightOf s n = min (namespaceAt s n .level) 32
+heightOf s n = min (namespaceAt s n .level) maxLevel
 
 -- ---- translation
 -- a translation at one moment: by kind and namespace, the kernel ID (document 01: station-wide ID) that an ID of the namespace stands for, and the ID

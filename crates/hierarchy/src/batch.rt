@@ -6,6 +6,7 @@ ghost use Rattle.tables.specs.Tables.{tablesOf};
 ghost use Rattle.hierarchy.specs.Batch.{turnedBy, knownBy, eachBy, orElse, toKernelEach, fromKernelEach};
 use crate::translate::from_kernel_by;
 use crate::translate::to_kernel_by;
+use idmap::NO_ID;
 use idmap::Translated;
 use idmap::batch::Batch;
 use idmap::batch::lookup_back_each;
@@ -17,7 +18,7 @@ use tables::lifted_maps::lifted_base;
 use tables::lifted_maps::lifted_lines;
 
 // One translation out of a namespace or back into it, by the lines and the base of its lifted map.
-fn turn(
+fn turned_by(
     t: &Tables,
     kind: Kind,
     backward: bool,
@@ -60,7 +61,7 @@ pub fn known_for(
     }
     Known {
         id: id,
-        found: id_or(turn(t, kind, backward, lines, base, place, id), other),
+        found: id_or(turned_by(t, kind, backward, lines, base, place, id), other),
     }
 }
 
@@ -79,7 +80,7 @@ fn singly(
 {
     let mut last = Known {
         id: 0,
-        found: id_or(turn(t, kind, backward, lines, base, place, 0), other),
+        found: id_or(turned_by(t, kind, backward, lines, base, place, 0), other),
     };
     let mut r: Batch = [0; 20];
     let mut i: usize = 0;
@@ -95,7 +96,7 @@ fn singly(
 fn or_else(id: u32, found: u32, other: u32) -> u32
     ensures { λ r. ⌜ r ≡ orElse other id found ⌝ }
 {
-    if id == 4294967295 { other } else { found }
+    if id == NO_ID { other } else { found }
 }
 
 // What was found for each kernel ID, but `other` for 'no ID'.
@@ -121,9 +122,9 @@ pub fn to_kernel_each(t: &Tables, kind: Kind, place: u64, ids: Batch) -> Batch
     let lines = lifted_lines(t, place as usize, kind);
     let base = lifted_base(t, place as usize, kind);
     if 0 < base {
-        return singly(t, kind, false, lines, base, place, ids, 4294967295);
+        return singly(t, kind, false, lines, base, place, ids, NO_ID);
     }
-    lookup_out_each(lines, ids, 4294967295)
+    lookup_out_each(lines, ids, NO_ID)
 }
 
 // The IDs of a namespace that stand for kernel IDs; `other` where there is none.

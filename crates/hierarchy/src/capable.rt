@@ -4,15 +4,20 @@ ghost use Rattle.tables.specs.Tables.{tablesOf};
 ghost use Rattle.hierarchy.specs.Walks.{heightOf, ownedBy, capableIn};
 use records::Namespace;
 use records::Process;
+use tables::MAX_LEVEL;
 use tables::Tables;
 use tables::namespaces::namespace_at;
 
-// How many steps lead from a namespace to the initial one, 32 at most.
+// How many steps lead from a namespace to the initial one, as many as there are levels at most.
 fn height(t: &Tables, place: u64) -> u64
     ensures { λ r. ⌜ r ≡ heightOf (tablesOf (now (t .entry))) place ⌝ }
 {
     let n = namespace_at(t, place as usize);
-    if n.level < 32 { n.level } else { 32 }
+    if n.level < MAX_LEVEL {
+        n.level
+    } else {
+        MAX_LEVEL
+    }
 }
 
 // Whether the namespace's parent is `own` and its owner `euid`.

@@ -4,36 +4,41 @@ ghost use Rattle.idmap.specs.Line.{linesIn};
 ghost use Rattle.idmap.specs.Lookup.{thenId, back};
 ghost use Rattle.tables.specs.Tables.{tablesOf};
 ghost use Rattle.hierarchy.specs.Walks.{itself};
-ghost use Rattle.hierarchy.specs.Lifted.{outIn, toKernelBy, toKernel, backIn, fromKernelBy, fromKernel};
+ghost use Rattle.hierarchy.specs.Lifted.{stepsAbove, outIn, toKernelBy, toKernel, backIn, fromKernelBy, fromKernel};
+use idmap::NO_ID;
 use idmap::Translated;
 use idmap::lookup::lookup_back;
 use idmap::lookup::lookup_out;
 use records::Kind;
+use tables::MAX_LEVEL;
 use tables::Tables;
 use tables::lifted_maps::lifted_base;
 use tables::lifted_maps::lifted_lines;
 
+// The most steps that are left behind the first one: each goes up one level at least.
+const STEPS_ABOVE: u64 = MAX_LEVEL - 1;
+
 // In the initial namespace each ID but 'no ID' stands for itself.
-fn same(id: u32) -> Translated
+fn itself(id: u32) -> Translated
     ensures { λ r. ⌜ r ≡ itself id ⌝ }
 {
-    if id == 4294967295 {
+    if id == NO_ID {
         Translated::Unmapped
     } else {
         Translated::Id(id)
     }
 }
 
-// The kernel ID of an ID, in 31 steps at most.
+// The kernel ID of an ID that a lifted map gave, by the lifted maps above.
 fn up(t: &Tables, kind: Kind, place: u64, id: u32) -> Translated
-    ensures { λ r. ⌜ r ≡ outIn (tablesOf (now (t .entry))) kind 31 place id ⌝ }
+    ensures { λ r. ⌜ r ≡ outIn (tablesOf (now (t .entry))) kind stepsAbove place id ⌝ }
 {
-    let mut left: u64 = 31;
+    let mut left: u64 = STEPS_ABOVE;
     let mut at = place;
     let mut x = id;
     loop {
         if at == 0 {
-            break same(x);
+            break itself(x);
         }
         if left == 0 {
             break Translated::Unmapped;
@@ -60,14 +65,14 @@ pub fn to_kernel_by(
     ensures { λ r. ⌜ r ≡ toKernelBy (tablesOf (now (t .entry))) kind (record { base = base; lines = linesIn (now (lines .entry)) }) place id ⌝ }
 {
     if place == 0 {
-        return same(id);
+        return itself(id);
     }
     let found = lookup_out(lines, id);
     let Translated::Id(y) = found else {
         return Translated::Unmapped;
     };
     if base == 0 {
-        return same(y);
+        return itself(y);
     }
     up(t, kind, base, y)
 }
@@ -86,7 +91,7 @@ fn down(t: &Tables, kind: Kind, left: u64, at: u64, id: u32) -> Translated
     ensures { λ r. ⌜ r ≡ backIn (tablesOf (now (t .entry))) kind left at id ⌝ }
 {
     if at == 0 {
-        return same(id);
+        return itself(id);
     }
     if left == 0 {
         return Translated::Unmapped;
@@ -101,9 +106,9 @@ fn down(t: &Tables, kind: Kind, left: u64, at: u64, id: u32) -> Translated
 
 // The ID of a namespace for a kernel ID, by the lines of its lifted map and from its base down.
 fn from_base(t: &Tables, kind: Kind, lines: &[u64], base: u64, id: u32) -> Translated
-    ensures { λ r. ⌜ r ≡ thenId (backIn (tablesOf (now (t .entry))) kind 31 base id) (back (linesIn (now (lines .entry)))) ⌝ }
+    ensures { λ r. ⌜ r ≡ thenId (backIn (tablesOf (now (t .entry))) kind stepsAbove base id) (back (linesIn (now (lines .entry)))) ⌝ }
 {
-    let above = down(t, kind, 31, base, id);
+    let above = down(t, kind, STEPS_ABOVE, base, id);
     match above {
         Translated::Id(z) => lookup_back(lines, z),
         Translated::Unmapped => Translated::Unmapped,
@@ -122,12 +127,12 @@ pub fn from_kernel_by(
     ensures { λ r. ⌜ r ≡ fromKernelBy (tablesOf (now (t .entry))) kind (record { base = base; lines = linesIn (now (lines .entry)) }) place id ⌝ }
 {
     if place == 0 {
-        return same(id);
+        return itself(id);
     }
     if 0 < base {
         return from_base(t, kind, lines, base, id);
     }
-    if id == 4294967295 {
+    if id == NO_ID {
         return Translated::Unmapped;
     }
     lookup_back(lines, id)

@@ -33,6 +33,10 @@ processPlaces = 128
 abbrev pub namespacePlaces : ℕ
 namespacePlaces = 64
 
+-- document 01: levels reach 32 at most
+abbrev pub maxLevel : ℕ
+maxLevel = 32
+
 -- where the tables start in the lent array, each behind the one before it
 abbrev pub processesAt : ℕ
 processesAt = 0

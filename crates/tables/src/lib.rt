@@ -16,6 +16,9 @@ pub const PROCESS_PLACES: usize = 128;
 
 pub const NAMESPACE_PLACES: usize = 64;
 
+// The highest level that a namespace has.
+pub const MAX_LEVEL: u64 = 32;
+
 // Where the tables start in the array: the processes, the namespaces, their lifted maps of users and those of groups.
 const PROCESSES_AT: usize = 0;
 

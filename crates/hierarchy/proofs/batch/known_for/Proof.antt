@@ -7,6 +7,6 @@ pub known-for-spec : {M : Type 1} → statement M
 known-for-spec =
     tie.close (tie.spec
     (λ c. search translating)  -- returns
-    (λ c κs. search translating)  -- turn-requires
+    (λ c κs. search translating)  -- turned-by-requires
     (λ c κs. search translating)  -- id-or-requires
     (λ c. search translating))  -- returns-2

@@ -22,7 +22,7 @@ abbrev μ-loop : tie.MeasureT-loop
 pub singly-spec : {M : Type 1} → statement M
 singly-spec =
     tie.close (tie.spec Inv-loop μ-loop
-    (λ c κs. search translating)  -- turn-requires
+    (λ c κs. search translating)  -- turned-by-requires
     (λ c κs. search translating)  -- id-or-requires
     (λ c. search translating)  -- loop-holds
     (λ c. search translating)  -- mul-known-for

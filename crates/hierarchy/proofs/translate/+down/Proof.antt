@@ -6,7 +6,7 @@ use Rattle.hierarchy.proofs.Translations.{translations}
 use Rattle.hierarchy.proofs.translate.down.Reads as down
 use Rattle.hierarchy.proofs.translate.down.Kinds as down-kinds
 use Rattle.hierarchy.proofs.translate.+down.Lts-down as down-lts
-use Rattle.hierarchy.proofs.translate.same.Reads as same-reads
+use Rattle.hierarchy.proofs.translate.itself.Reads as itself-reads
 use Rattle.idmap.proofs.lookup.lookup_back.Reads as lookup-back-reads
 use Rattle.tables.proofs.lifted_maps.lifted_base.Reads as lifted-base-reads
 use Rattle.tables.proofs.lifted_maps.lifted_lines.Reads as lifted-lines-reads
@@ -25,8 +25,8 @@ down-below t = and 1 down-kinds.ps (falls 1 down-kinds.ps _<_ μ-down t) down.Pr
 
 pub +down-spec : {M : Type 1} → statement M
 +down-spec = close μ-down λ t. down-lts.spec (
-  same-reads.Asked,
-  same-reads.Learnt,
+  itself-reads.Asked,
+  itself-reads.Learnt,
   lifted-base-reads.Asked,
   lifted-base-reads.Learnt,
   down-below t,
@@ -38,7 +38,7 @@ pub +down-spec : {M : Type 1} → statement M
 )
     (down-at t)
     down.Post
-    (λ c κs. search translations)  -- same-requires
+    (λ c κs. search translations)  -- itself-requires
     (λ c. search translations)  -- returns
     (λ c. search translations)  -- returns-2
     (λ c κs. search translations)  -- lifted-base-requires

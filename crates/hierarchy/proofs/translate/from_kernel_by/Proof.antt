@@ -6,7 +6,7 @@ use Rattle.hierarchy.proofs.translate.from_kernel_by.Tie as tie
 pub from-kernel-by-spec : {M : Type 1} → statement M
 from-kernel-by-spec =
     tie.close (tie.spec
-    (λ c κs. search translations)  -- same-requires
+    (λ c κs. search translations)  -- itself-requires
     (λ c. search translations)  -- returns
     (λ c κs. search translations)  -- from-base-requires
     (λ c. search translations)  -- returns-2

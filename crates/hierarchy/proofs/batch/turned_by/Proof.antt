@@ -1,10 +1,10 @@
--- `hierarchy::batch::turn` meets its contract. Assumes nothing.
+-- `hierarchy::batch::turned_by` meets its contract. Assumes nothing.
 use Rattle.hierarchy.proofs.Batches.{translating}
-use Rattle.hierarchy.proofs.batch.turn.Statement.{statement}
-use Rattle.hierarchy.proofs.batch.turn.Tie as tie
+use Rattle.hierarchy.proofs.batch.turned_by.Statement.{statement}
+use Rattle.hierarchy.proofs.batch.turned_by.Tie as tie
 
-pub turn-spec : {M : Type 1} → statement M
-turn-spec =
+pub turned-by-spec : {M : Type 1} → statement M
+turned-by-spec =
     tie.close (tie.spec
     (λ c κs. search translating)  -- from-kernel-by-requires
     (λ c κs. search translating)  -- to-kernel-by-requires
