@@ -75,15 +75,15 @@ pub fn rows() -> Vec<Row> {
     rows.extend(questions());
     let (last, any) = (Ids::LastLine, Ids::AnyLine);
     let whole = Maps::Whole;
-    rows.extend(translations(1, "1 level of 5 lines", whole, last, TRANSLATION));
-    rows.extend(translations(8, "8 levels of 5 lines", whole, last, TRANSLATION));
-    rows.extend(translations(8, "8 levels of 5 lines, IDs of any line", whole, any, TRANSLATION));
-    rows.extend(translations(32, "32 levels of 5 lines", whole, last, CALL));
-    rows.extend(translations(8, "8 levels of 5 lines across", Maps::Across, last, TRANSLATION));
-    rows.extend(translations(32, "32 levels of 5 lines across", Maps::Across, last, CALL));
+    rows.extend(translations(1, "1 level", whole, last, TRANSLATION));
+    rows.extend(translations(8, "8 levels", whole, last, TRANSLATION));
+    rows.extend(translations(8, "8 levels, IDs of any line", whole, any, TRANSLATION));
+    rows.extend(translations(32, "32 levels", whole, last, CALL));
+    rows.extend(translations(8, "8 levels across", Maps::Across, last, TRANSLATION));
+    rows.extend(translations(32, "32 levels across", Maps::Across, last, CALL));
     let each = Maps::EachAcross;
-    rows.extend(translations(8, "8 levels of 5 lines, each across", each, last, TRANSLATION));
-    rows.extend(translations(32, "32 levels of 5 lines, each across", each, last, CALL));
+    rows.extend(translations(8, "8 levels, each across", each, last, TRANSLATION));
+    rows.extend(translations(32, "32 levels, each across", each, last, CALL));
     rows
 }
 
@@ -238,17 +238,17 @@ fn credentials() -> Vec<Row> {
     vec![
         set_ids("setresuid", &common, users, ROOT, Kernel::of(kernel::set_users())),
         set_ids("setresgid", &common, groups, ROOT, Kernel::of(kernel::set_groups())),
-        set_ids("setresuid, 8 levels of 5 lines", &deep, users, 9, Kernel::None),
+        set_ids("setresuid, 8 levels", &deep, users, 9, Kernel::None),
         set_groups("setgroups, 4 groups", &common, ROOT, &four, supplementary),
         set_groups(
-            "setgroups, 16 groups, 8 levels of 5 lines",
+            "setgroups, 16 groups, 8 levels",
             &deep,
             9,
             &state::sixteen_groups(),
             Kernel::None,
         ),
         set_groups(
-            "setgroups, 16 groups, 8 levels of 5 lines, each across",
+            "setgroups, 16 groups, 8 levels, each across",
             &State::nested(8, Maps::EachAcross),
             9,
             &state::sixteen_groups(),
@@ -286,19 +286,19 @@ fn questions() -> Vec<Row> {
         own_ids("getids, no groups", &common, 1, one_call),
         own_ids("getids, 4 groups", &common, ROOT, three_calls),
         own_ids(
-            "getids, 16 groups, 8 levels of 5 lines",
+            "getids, 16 groups, 8 levels",
             &State::nested(8, Maps::Whole).with_own_ids(9),
             9,
             Kernel::None,
         ),
         own_ids(
-            "getids, 16 groups, 8 levels of 5 lines across",
+            "getids, 16 groups, 8 levels across",
             &State::nested(8, Maps::Across).with_own_ids(9),
             9,
             Kernel::None,
         ),
         own_ids(
-            "getids, 16 groups, 8 levels of 5 lines, each across",
+            "getids, 16 groups, 8 levels, each across",
             &State::nested(8, Maps::EachAcross).with_own_ids(9),
             9,
             Kernel::None,
