@@ -27,8 +27,8 @@ const NAMESPACE: u64 = 1;
 const SYS_ADMIN: u32 = 21;
 const FULL: u64 = 0x1f_ffff_ffff;
 
-/// Times one call on both implementations. `calls` are those of a batch, and `call` makes the one of a number through the
-/// bindings and answers whether it is done.
+/// Times one call on both implementations. `calls` are those of a batch, and `call` makes the one of a number through
+/// the bindings and answers whether it is done.
 pub fn row(
     name: &str,
     goal: f64,

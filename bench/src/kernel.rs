@@ -1,5 +1,5 @@
-//! The host kernel's own calls, each measured in a child process, so that this one keeps its IDs and its namespace. A result is
-//! None where the kernel refuses.
+//! The host kernel's own calls, each measured in a child process, so that this one keeps its IDs and its namespace. A
+//! result is None where the kernel refuses.
 
 use std::ffi::{c_int, c_long, c_void};
 use std::fs::{File, OpenOptions};
@@ -78,7 +78,8 @@ fn repeated(mut call: impl FnMut(usize) -> bool) -> Option<f64> {
     in_child(|| time(&(), CALLS, |(), index| call(index)))
 }
 
-/// Nanoseconds of a call that is made once. The clock is read before, since the first reading in a new process takes longer.
+/// Nanoseconds of a call that is made once. The clock is read before, since the first reading in a new process takes
+/// longer.
 fn once(call: impl FnOnce() -> bool) -> Option<f64> {
     black_box(Instant::now().elapsed());
     let start = Instant::now();

@@ -117,8 +117,8 @@ impl State {
         state
     }
 
-    /// Namespaces one below the other with maps of five lines; the process at each level has the number one above it. The
-    /// deepest one's has sixteen supplementary groups.
+    /// Namespaces one below the other with maps of five lines; the process at each level has the number one above it.
+    /// The deepest one's has sixteen supplementary groups.
     pub fn deep(levels: u64) -> State {
         State::nested(levels, Maps::Whole)
     }

@@ -1,11 +1,11 @@
 //! The calls as the archive exports them. All the unsafe code is here.
 //!
-//! The declarations are those of `bindings/c/oarhatchet.h`. A function that takes references to single arrays and numbers alone
-//! asks nothing more of its caller, so it is declared safe. A slice crosses as its pointer and its length, so the functions that
-//! take one are unsafe here, and a safe function stands above each.
+//! The declarations are those of `bindings/c/oarhatchet.h`. A function that takes references to single arrays and
+//! numbers alone asks nothing more of its caller, so it is declared safe. A slice crosses as its pointer and its
+//! length, so the functions that take one are unsafe here, and a safe function stands above each.
 //!
-//! The archive's code has no state of its own, keeps no pointer and writes nothing behind a pointer to const. References and
-//! slices are never null, and the borrow checker keeps what is lent to one call from overlapping.
+//! The archive's code has no state of its own, keeps no pointer and writes nothing behind a pointer to const.
+//! References and slices are never null, and the borrow checker keeps what is lent to one call from overlapping.
 #![allow(unsafe_code)]
 
 /// The words of the tables.

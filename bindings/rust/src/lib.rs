@@ -1,7 +1,8 @@
 //! The tables of user namespaces and processes, by the rules of user_namespaces(7), and every call on them.
 //!
-//! The calls are proved code, linked as an archive for x86-64 that `tools/archive` builds. This crate lends them the tables and
-//! turns their numbers into Rust types; it asks nothing of its caller, and a bad name, text or list is refused by the call.
+//! The calls are proved code, linked as an archive for x86-64 that `tools/archive` builds. This crate lends them the
+//! tables and turns their numbers into Rust types; it asks nothing of its caller, and a bad name, text or list is
+//! refused by the call.
 //!
 //! Process 1 makes a namespace with a child in it, and maps user IDs there:
 //!
@@ -24,8 +25,9 @@
 //! # }
 //! ```
 //!
-//! Processes are numbered 1 to 128 and namespaces 0 to 63; a new one takes the lowest unused number. A kernel ID is an ID of
-//! namespace 0, which is the initial one. The pages in `docs/calls` say in full what each call answers and when it refuses.
+//! Processes are numbered 1 to 128 and namespaces 0 to 63; a new one takes the lowest unused number. A kernel ID is
+//! an ID of namespace 0, which is the initial one. The pages in `docs/calls` say in full what each call answers and
+//! when it refuses.
 #![deny(unsafe_code)]
 #![warn(missing_docs)]
 

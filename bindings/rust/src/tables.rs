@@ -11,12 +11,12 @@ const FIRST_BUFFER: usize = 165;
 
 /// The tables of namespaces and processes. Only the calls change them.
 ///
-/// In each call `caller` names the process that makes it. Every call first finds the caller, then the process or namespace
-/// named, and refuses with [`Errno::Esrch`] where there is none; the other refusals stand at each call, in the order in which
-/// they are tested. A refused call changes nothing.
+/// In each call `caller` names the process that makes it. Every call first finds the caller, then the process or
+/// namespace named, and refuses with [`Errno::Esrch`] where there is none; the other refusals stand at each call, in
+/// the order in which they are tested. A refused call changes nothing.
 ///
-/// The array is in one box, so a value is cheap to move. It may be sent to other threads, and questions and reads may be asked
-/// from several at once.
+/// The array is in one box, so a value is cheap to move. It may be sent to other threads, and questions and reads may
+/// be asked from several at once.
 pub struct Tables {
     words: Box<Words>,
 }
@@ -53,12 +53,12 @@ impl Tables {
         result_of(ffi::oarhatchet_fork(&mut self.words, caller))
     }
 
-    /// Makes a namespace below the caller's and a copy of the caller in it, with both capability sets full. This is the call
-    /// clone with a new user namespace.
+    /// Makes a namespace below the caller's and a copy of the caller in it, with both capability sets full. This is
+    /// the call clone with a new user namespace.
     ///
-    /// Refuses with [`Errno::Eusers`] where the caller's namespace has level 32; [`Errno::Eperm`] where the caller's effective
-    /// user or group ID is not mapped in its namespace; [`Errno::Enospc`] where 64 namespaces exist; [`Errno::Eagain`] where 128
-    /// processes exist.
+    /// Refuses with [`Errno::Eusers`] where the caller's namespace has level 32; [`Errno::Eperm`] where the caller's
+    /// effective user or group ID is not mapped in its namespace; [`Errno::Enospc`] where 64 namespaces exist;
+    /// [`Errno::Eagain`] where 128 processes exist.
     ///
     /// ```
     /// use oarhatchet::{Child, Errno, Tables};
@@ -91,8 +91,8 @@ impl Tables {
 
     /// Moves the caller into a namespace that exists, with both capability sets full.
     ///
-    /// Refuses with [`Errno::Einval`] where the caller is in it already; [`Errno::Eperm`] where the caller does not hold
-    /// SYS_ADMIN (21) in it.
+    /// Refuses with [`Errno::Einval`] where the caller is in it already; [`Errno::Eperm`] where the caller does not
+    /// hold SYS_ADMIN (21) in it.
     ///
     /// ```
     /// use oarhatchet::{Errno, Tables};
@@ -107,14 +107,14 @@ impl Tables {
         done(ffi::oarhatchet_setns(&mut self.words, caller, namespace))
     }
 
-    /// Writes the user or group map of the namespace that the process is in, which is done once. The text is one to five lines
-    /// of inside start, parent start and count.
+    /// Writes the user or group map of the namespace that the process is in, which is done once. The text is one to
+    /// five lines of inside start, parent start and count.
     ///
-    /// Refuses with [`Errno::Eperm`] where that namespace is namespace 0, or the caller is neither in it nor in its parent;
-    /// [`Errno::Einval`] where the text has 0 or more than 4095 bytes; [`Errno::Eperm`] where the map is written already, or the
-    /// caller does not hold SETUID (7), for a group map SETGID (6), in the namespace; [`Errno::Einval`] where the text is bad;
-    /// [`Errno::Eperm`] where the caller does not hold that capability in the parent and the text does more than map its own ID,
-    /// or an ID of the parent side is not in the parent's map.
+    /// Refuses with [`Errno::Eperm`] where that namespace is namespace 0, or the caller is neither in it nor in its
+    /// parent; [`Errno::Einval`] where the text has 0 or more than 4095 bytes; [`Errno::Eperm`] where the map is
+    /// written already, or the caller does not hold SETUID (7), for a group map SETGID (6), in the namespace;
+    /// [`Errno::Einval`] where the text is bad; [`Errno::Eperm`] where the caller does not hold that capability in
+    /// the parent and the text does more than map its own ID, or an ID of the parent side is not in the parent's map.
     ///
     /// ```
     /// use oarhatchet::{Errno, Kind, Tables};
@@ -140,10 +140,12 @@ impl Tables {
         done(call(&mut self.words, caller, process, text))
     }
 
-    /// Writes the setgroups setting of the namespace that the process is in: `allow` or `deny`, with or without a newline.
+    /// Writes the setgroups setting of the namespace that the process is in: `allow` or `deny`, with or without a
+    /// newline.
     ///
-    /// Refuses with [`Errno::Eperm`] where the caller does not hold SYS_ADMIN (21) in the namespace; [`Errno::Einval`] where the
-    /// text is another; [`Errno::Eperm`] for `deny` after the group map is written and for `allow` after `deny`.
+    /// Refuses with [`Errno::Eperm`] where the caller does not hold SYS_ADMIN (21) in the namespace;
+    /// [`Errno::Einval`] where the text is another; [`Errno::Eperm`] for `deny` after the group map is written and
+    /// for `allow` after `deny`.
     ///
     /// ```
     /// use oarhatchet::{Errno, Tables};
@@ -158,9 +160,9 @@ impl Tables {
         done(ffi::write_setgroups(&mut self.words, caller, process, text))
     }
 
-    /// Reads the user or group map of the namespace that the process is in to the front of the buffer, and answers the text's
-    /// length: 33 bytes for each line, and 0 for a map that is not written. Parent starts are shown as the caller sees them. The
-    /// bytes after the text stay as they are.
+    /// Reads the user or group map of the namespace that the process is in to the front of the buffer, and answers
+    /// the text's length: 33 bytes for each line, and 0 for a map that is not written. Parent starts are shown as the
+    /// caller sees them. The bytes after the text stay as they are.
     ///
     /// Refuses with [`Errno::Erange`] where the buffer is shorter than the text.
     ///
@@ -187,8 +189,8 @@ impl Tables {
         length(call(&self.words, caller, process, buffer))
     }
 
-    /// Reads the setgroups setting of the namespace that the process is in, with a newline, to the front of the buffer, and
-    /// answers the text's length. The bytes after the text stay as they are.
+    /// Reads the setgroups setting of the namespace that the process is in, with a newline, to the front of the
+    /// buffer, and answers the text's length. The bytes after the text stay as they are.
     ///
     /// Refuses with [`Errno::Erange`] where the buffer is shorter than the text.
     ///
@@ -236,11 +238,12 @@ impl Tables {
         whole_text(|buffer| self.read_setgroups(caller, process, buffer))
     }
 
-    /// Sets the caller's real, effective and saved user or group IDs, as IDs of its namespace. [`NO_ID`](crate::NO_ID) leaves
-    /// one as it is. This is setresuid or setresgid. A caller whose user IDs leave ID 0 loses capabilities.
+    /// Sets the caller's real, effective and saved user or group IDs, as IDs of its namespace.
+    /// [`NO_ID`](crate::NO_ID) leaves one as it is. This is setresuid or setresgid. A caller whose user IDs leave ID
+    /// 0 loses capabilities.
     ///
-    /// Refuses with [`Errno::Einval`] where an ID is not mapped; [`Errno::Eperm`] where the caller does not hold SETUID (7), for
-    /// group IDs SETGID (6), in its namespace, and one of the new three is none of its present three.
+    /// Refuses with [`Errno::Einval`] where an ID is not mapped; [`Errno::Eperm`] where the caller does not hold
+    /// SETUID (7), for group IDs SETGID (6), in its namespace, and one of the new three is none of its present three.
     ///
     /// ```
     /// use oarhatchet::{Errno, Kind, Tables, NO_ID};
@@ -262,8 +265,9 @@ impl Tables {
 
     /// Replaces the caller's supplementary groups by the list, in its order.
     ///
-    /// Refuses with [`Errno::Eperm`] where the caller does not hold SETGID (6) in its namespace, the group map there is not
-    /// written, or the setting there is `deny`; [`Errno::Einval`] where the list has over 16 IDs or one is not mapped.
+    /// Refuses with [`Errno::Eperm`] where the caller does not hold SETGID (6) in its namespace, the group map there
+    /// is not written, or the setting there is `deny`; [`Errno::Einval`] where the list has over 16 IDs or one is not
+    /// mapped.
     ///
     /// ```
     /// use oarhatchet::{Errno, Tables};
@@ -296,8 +300,8 @@ impl Tables {
 
     /// Sets the caller's permitted and effective capability sets, bit n for capability n.
     ///
-    /// Refuses with [`Errno::Eperm`] where the permitted set gains a capability, or the effective set has one that the permitted
-    /// set has not.
+    /// Refuses with [`Errno::Eperm`] where the permitted set gains a capability, or the effective set has one that
+    /// the permitted set has not.
     ///
     /// ```
     /// use oarhatchet::{Errno, Tables};

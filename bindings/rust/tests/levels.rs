@@ -1,5 +1,6 @@
-//! Translation of IDs and of lists through 32 levels of random maps, against the reference program. The maps of a level cut the
-//! IDs into up to five pieces and put them into another order, so that their lines run across those above at random places.
+//! Translation of IDs and of lists through 32 levels of random maps, against the reference program. The maps of a
+//! level cut the IDs into up to five pieces and put them into another order, so that their lines run across those
+//! above at random places.
 
 use oarhatchet::Tables;
 use reference::random::Random;

@@ -1,4 +1,5 @@
-//! Random lists of calls: every answer, and afterwards every table as the public reads show it, is the reference program's.
+//! Random lists of calls: every answer, and afterwards every table as the public reads show it, is the reference
+//! program's.
 
 mod common;
 

@@ -145,7 +145,8 @@ fn nested(tables: &mut Tables, caller: u64, users: &str, groups: &str) -> u64 {
     child
 }
 
-/// The second of the user lines at level 2 runs across both lines of level 1; each line of the groups lies whole in one.
+/// The second of the user lines at level 2 runs across both lines of level 1; each line of the groups lies whole in
+/// one.
 #[test]
 fn translation_goes_through_levels() {
     let mut tables = Tables::new();
@@ -188,8 +189,8 @@ fn translation_goes_through_levels() {
     }
 }
 
-/// At each level four of five lines run across two lines of the map above, so that a map has four pieces more than the one above
-/// it, and from level 9 on more than a lifted map has room for.
+/// At each level four of five lines run across two lines of the map above, so that a map has four pieces more than
+/// the one above it, and from level 9 on more than a lifted map has room for.
 #[test]
 fn translation_goes_through_lines_across() {
     let mut tables = Tables::new();
