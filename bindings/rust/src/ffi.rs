@@ -8,12 +8,14 @@
 //! References and slices are never null, and the borrow checker keeps what is lent to one call from overlapping.
 #![allow(unsafe_code)]
 
+use crate::groups::MAX_GROUPS;
+
 /// The words of the tables.
 pub const WORDS: usize = 18880;
 pub type Words = [u64; WORDS];
 
-/// What the own-ID question writes: six IDs and sixteen places for groups.
-pub const IDS: usize = 22;
+/// What the own-ID question writes: six IDs, and a place for each group.
+pub const IDS: usize = 6 + MAX_GROUPS;
 
 unsafe extern "C" {
     pub safe fn oarhatchet_initial(tables: &mut Words);

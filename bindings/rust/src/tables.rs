@@ -6,8 +6,11 @@ use crate::errno::{result_of, Errno};
 use crate::ffi::{self, Words};
 use crate::{Child, Groups, Kind, OwnIds, Way};
 
-/// The length of the first buffer that the reads of whole texts lend: five lines of 33 bytes.
-const FIRST_BUFFER: usize = 165;
+/// The most lines of a map, and the bytes of each in the text of a read.
+const MAX_LINES: usize = 5;
+const LINE_LENGTH: usize = 33;
+/// The length of the first buffer that the reads of whole texts lend.
+const FIRST_BUFFER: usize = MAX_LINES * LINE_LENGTH;
 
 /// The tables of namespaces and processes. Only the calls change them.
 ///
@@ -92,7 +95,7 @@ impl Tables {
     /// Moves the caller into a namespace that exists, with both capability sets full.
     ///
     /// Refuses with [`Errno::Einval`] where the caller is in it already; [`Errno::Eperm`] where the caller does not
-    /// hold SYS_ADMIN (21) in it.
+    /// hold [`CAP_SYS_ADMIN`](crate::CAP_SYS_ADMIN) in it.
     ///
     /// ```
     /// use oarhatchet::{Errno, Tables};
@@ -112,9 +115,10 @@ impl Tables {
     ///
     /// Refuses with [`Errno::Eperm`] where that namespace is namespace 0, or the caller is neither in it nor in its
     /// parent; [`Errno::Einval`] where the text has 0 or more than 4095 bytes; [`Errno::Eperm`] where the map is
-    /// written already, or the caller does not hold SETUID (7), for a group map SETGID (6), in the namespace;
-    /// [`Errno::Einval`] where the text is bad; [`Errno::Eperm`] where the caller does not hold that capability in
-    /// the parent and the text does more than map its own ID, or an ID of the parent side is not in the parent's map.
+    /// written already, or the caller does not hold [`CAP_SETUID`](crate::CAP_SETUID), for a group map
+    /// [`CAP_SETGID`](crate::CAP_SETGID), in the namespace; [`Errno::Einval`] where the text is bad; [`Errno::Eperm`]
+    /// where the caller does not hold that capability in the parent and the text does more than map its own ID, or an
+    /// ID of the parent side is not in the parent's map.
     ///
     /// ```
     /// use oarhatchet::{Errno, Kind, Tables};
@@ -143,9 +147,9 @@ impl Tables {
     /// Writes the setgroups setting of the namespace that the process is in: `allow` or `deny`, with or without a
     /// newline.
     ///
-    /// Refuses with [`Errno::Eperm`] where the caller does not hold SYS_ADMIN (21) in the namespace;
-    /// [`Errno::Einval`] where the text is another; [`Errno::Eperm`] for `deny` after the group map is written and
-    /// for `allow` after `deny`.
+    /// Refuses with [`Errno::Eperm`] where the caller does not hold [`CAP_SYS_ADMIN`](crate::CAP_SYS_ADMIN) in the
+    /// namespace; [`Errno::Einval`] where the text is another; [`Errno::Eperm`] for `deny` after the group map is
+    /// written and for `allow` after `deny`.
     ///
     /// ```
     /// use oarhatchet::{Errno, Tables};
@@ -243,7 +247,8 @@ impl Tables {
     /// 0 loses capabilities.
     ///
     /// Refuses with [`Errno::Einval`] where an ID is not mapped; [`Errno::Eperm`] where the caller does not hold
-    /// SETUID (7), for group IDs SETGID (6), in its namespace, and one of the new three is none of its present three.
+    /// [`CAP_SETUID`](crate::CAP_SETUID), for group IDs [`CAP_SETGID`](crate::CAP_SETGID), in its namespace, and one
+    /// of the new three is none of its present three.
     ///
     /// ```
     /// use oarhatchet::{Errno, Kind, Tables, NO_ID};
@@ -265,9 +270,9 @@ impl Tables {
 
     /// Replaces the caller's supplementary groups by the list, in its order.
     ///
-    /// Refuses with [`Errno::Eperm`] where the caller does not hold SETGID (6) in its namespace, the group map there
-    /// is not written, or the setting there is `deny`; [`Errno::Einval`] where the list has over 16 IDs or one is not
-    /// mapped.
+    /// Refuses with [`Errno::Eperm`] where the caller does not hold [`CAP_SETGID`](crate::CAP_SETGID) in its
+    /// namespace, the group map there is not written, or the setting there is `deny`; [`Errno::Einval`] where the
+    /// list has over 16 IDs or one is not mapped.
     ///
     /// ```
     /// use oarhatchet::{Errno, Tables};
@@ -284,13 +289,15 @@ impl Tables {
 
     /// Whether the caller holds the capability of this number in the namespace.
     ///
-    /// Refuses with [`Errno::Einval`] where the number is over 36.
+    /// Refuses with [`Errno::Einval`] where the number is over [`CAP_LAST_CAP`](crate::CAP_LAST_CAP).
     ///
     /// ```
-    /// let mut tables = oarhatchet::Tables::new();
+    /// use oarhatchet::{Tables, CAP_SYS_ADMIN};
+    ///
+    /// let mut tables = Tables::new();
     /// let child = tables.clone_process(1)?;
-    /// assert_eq!(tables.capable(1, child.namespace, 21), Ok(true));
-    /// assert_eq!(tables.capable(child.process, 0, 21), Ok(false));
+    /// assert_eq!(tables.capable(1, child.namespace, CAP_SYS_ADMIN), Ok(true));
+    /// assert_eq!(tables.capable(child.process, 0, CAP_SYS_ADMIN), Ok(false));
     /// # Ok::<(), oarhatchet::Errno>(())
     /// ```
     pub fn capable(&self, caller: u64, namespace: u64, number: u32) -> Result<bool, Errno> {
@@ -304,12 +311,13 @@ impl Tables {
     /// the permitted set has not.
     ///
     /// ```
-    /// use oarhatchet::{Errno, Tables};
+    /// use oarhatchet::{Errno, Tables, CAP_SETGID, CAP_SETUID};
     ///
     /// let mut tables = Tables::new();
-    /// tables.capset(1, 0x80, 0)?;
-    /// assert_eq!(tables.capable(1, 0, 7), Ok(false));
-    /// assert_eq!(tables.capset(1, 0xc0, 0x80), Err(Errno::Eperm));
+    /// let (groups, users) = (1 << CAP_SETGID, 1 << CAP_SETUID);
+    /// tables.capset(1, users, 0)?;
+    /// assert_eq!(tables.capable(1, 0, CAP_SETUID), Ok(false));
+    /// assert_eq!(tables.capset(1, groups | users, users), Err(Errno::Eperm));
     /// # Ok::<(), Errno>(())
     /// ```
     pub fn capset(&mut self, caller: u64, permitted: u64, effective: u64) -> Result<(), Errno> {
@@ -322,7 +330,7 @@ impl Tables {
     /// let mut tables = oarhatchet::Tables::new();
     /// let child = tables.clone_process(1)?;
     /// // No ID is mapped in the new namespace yet.
-    /// assert_eq!(tables.getids(child.process)?.groups, [65534; 3]);
+    /// assert_eq!(tables.getids(child.process)?.groups, [oarhatchet::OVERFLOW_ID; 3]);
     /// # Ok::<(), oarhatchet::Errno>(())
     /// ```
     pub fn getids(&self, caller: u64) -> Result<OwnIds, Errno> {
