@@ -1,5 +1,5 @@
-//! The calls that translate IDs, through levels of maps in each of which four lines run across two lines of the map above. All
-//! IDs are in the last line.
+//! The calls that translate IDs, through levels of maps in each of which four lines run across two lines of the map
+//! above. All IDs are in the last line.
 
 use oarhatchet::Kind;
 use reference::Call;
@@ -24,7 +24,7 @@ fn through(levels: u64) -> Vec<Row> {
     bare.make(Call::Setgroups { caller, groups: Vec::new() });
     let bare = bare.with_own_ids(caller);
     let ids = own_ids_of_last_line();
-    let name = |call: &str| format!("{call}, {levels} levels, each across");
+    let name = |call: &str| format!("{call}, {levels} levels");
     let change = Call::SetIds { kind: reference::Kind::User, caller, ids };
     let clones = vec![Call::Clone { caller }; ONCE];
     vec![

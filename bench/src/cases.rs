@@ -2,7 +2,7 @@
 
 use std::hint::black_box;
 
-use oarhatchet::{Kind, Way};
+use oarhatchet::{Kind, Way, CAP_LAST_CAP, CAP_SYS_ADMIN};
 use reference::random::Random;
 use reference::{Answer, Call, Direction};
 
@@ -24,11 +24,16 @@ pub const ONCE: usize = 32;
 /// The root of the first namespace of the common state, and that namespace.
 const ROOT: u64 = 2;
 const NAMESPACE: u64 = 1;
-const SYS_ADMIN: u32 = 21;
-const FULL: u64 = 0x1f_ffff_ffff;
+/// The set of all capabilities.
+const FULL: u64 = (1 << (CAP_LAST_CAP + 1)) - 1;
+/// The bytes of five lines of a map that is read, and of the setgroups setting with some to spare.
+const MAP_BUFFER: usize = 5 * 33;
+const SETTING_BUFFER: usize = 8;
+/// The deepest level that there is.
+const LAST_LEVEL: u64 = 32;
 
-/// Times one call on both implementations. `calls` are those of a batch, and `call` makes the one of a number through the
-/// bindings and answers whether it is done.
+/// Times one call on both implementations. `calls` are those of a batch, and `call` makes the one of a number through
+/// the bindings and answers whether it is done.
 pub fn row(
     name: &str,
     goal: f64,
@@ -75,15 +80,15 @@ pub fn rows() -> Vec<Row> {
     rows.extend(questions());
     let (last, any) = (Ids::LastLine, Ids::AnyLine);
     let whole = Maps::Whole;
-    rows.extend(translations(1, "1 level of 5 lines", whole, last, TRANSLATION));
-    rows.extend(translations(8, "8 levels of 5 lines", whole, last, TRANSLATION));
-    rows.extend(translations(8, "8 levels of 5 lines, IDs of any line", whole, any, TRANSLATION));
-    rows.extend(translations(32, "32 levels of 5 lines", whole, last, CALL));
-    rows.extend(translations(8, "8 levels of 5 lines across", Maps::Across, last, TRANSLATION));
-    rows.extend(translations(32, "32 levels of 5 lines across", Maps::Across, last, CALL));
+    rows.extend(translations(1, "1 level", whole, last, TRANSLATION));
+    rows.extend(translations(8, "8 levels", whole, last, TRANSLATION));
+    rows.extend(translations(8, "8 levels, IDs of any line", whole, any, TRANSLATION));
+    rows.extend(translations(LAST_LEVEL, "32 levels", whole, last, CALL));
+    rows.extend(translations(8, "8 levels across", Maps::Across, last, TRANSLATION));
+    rows.extend(translations(LAST_LEVEL, "32 levels across", Maps::Across, last, CALL));
     let each = Maps::EachAcross;
-    rows.extend(translations(8, "8 levels of 5 lines, each across", each, last, TRANSLATION));
-    rows.extend(translations(32, "32 levels of 5 lines, each across", each, last, CALL));
+    rows.extend(translations(8, "8 levels, each across", each, last, TRANSLATION));
+    rows.extend(translations(LAST_LEVEL, "32 levels, each across", each, last, CALL));
     rows
 }
 
@@ -173,10 +178,10 @@ fn writes() -> Vec<Row> {
 }
 
 pub fn read_map(name: &str, state: &State, caller: u64, process: u64, kernel: Kernel) -> Row {
-    let buffer = vec![0; 165];
+    let buffer = vec![0; MAP_BUFFER];
     let call = Call::ReadMap { kind: reference::Kind::User, caller, process, buffer };
     row(name, MAP, state, kernel, repeated(call), |t, _| {
-        let mut buffer = [0; 165];
+        let mut buffer = [0; MAP_BUFFER];
         let done = t.read_map(Kind::User, caller, process, &mut buffer).is_ok();
         black_box(buffer);
         done
@@ -187,7 +192,7 @@ fn reads() -> Vec<Row> {
     let common = State::common();
     let one = Kernel::of(kernel::read_map(ONE_LINE));
     let five = Kernel::of(kernel::read_map(FIVE_LINES));
-    let setting = Call::ReadSetgroups { caller: 1, process: ROOT, buffer: vec![0; 8] };
+    let setting = Call::ReadSetgroups { caller: 1, process: ROOT, buffer: vec![0; SETTING_BUFFER] };
     vec![
         read_map("read_map, 1 line", &common, 1, ROOT, one),
         read_map("read_map, 5 lines", &State::deep(1), 1, 2, five),
@@ -199,7 +204,7 @@ fn reads() -> Vec<Row> {
             Kernel::of(kernel::read_setgroups()),
             repeated(setting),
             |t, _| {
-                let mut buffer = [0; 8];
+                let mut buffer = [0; SETTING_BUFFER];
                 let done = t.read_setgroups(1, ROOT, &mut buffer).is_ok();
                 black_box(buffer);
                 done
@@ -238,17 +243,17 @@ fn credentials() -> Vec<Row> {
     vec![
         set_ids("setresuid", &common, users, ROOT, Kernel::of(kernel::set_users())),
         set_ids("setresgid", &common, groups, ROOT, Kernel::of(kernel::set_groups())),
-        set_ids("setresuid, 8 levels of 5 lines", &deep, users, 9, Kernel::None),
+        set_ids("setresuid, 8 levels", &deep, users, 9, Kernel::None),
         set_groups("setgroups, 4 groups", &common, ROOT, &four, supplementary),
         set_groups(
-            "setgroups, 16 groups, 8 levels of 5 lines",
+            "setgroups, 16 groups, 8 levels",
             &deep,
             9,
             &state::sixteen_groups(),
             Kernel::None,
         ),
         set_groups(
-            "setgroups, 16 groups, 8 levels of 5 lines, each across",
+            "setgroups, 16 groups, 8 levels, each across",
             &State::nested(8, Maps::EachAcross),
             9,
             &state::sixteen_groups(),
@@ -272,9 +277,9 @@ pub fn own_ids(name: &str, state: &State, caller: u64, kernel: Kernel) -> Row {
 }
 
 fn capable(name: &str, state: &State, namespace: u64) -> Row {
-    let call = Call::Capable { caller: 1, namespace, number: SYS_ADMIN };
+    let call = Call::Capable { caller: 1, namespace, number: CAP_SYS_ADMIN };
     row(name, CALL, state, Kernel::None, repeated(call), |t, _| {
-        black_box(t.capable(1, namespace, SYS_ADMIN)).is_ok()
+        black_box(t.capable(1, namespace, CAP_SYS_ADMIN)).is_ok()
     })
 }
 
@@ -286,25 +291,25 @@ fn questions() -> Vec<Row> {
         own_ids("getids, no groups", &common, 1, one_call),
         own_ids("getids, 4 groups", &common, ROOT, three_calls),
         own_ids(
-            "getids, 16 groups, 8 levels of 5 lines",
+            "getids, 16 groups, 8 levels",
             &State::nested(8, Maps::Whole).with_own_ids(9),
             9,
             Kernel::None,
         ),
         own_ids(
-            "getids, 16 groups, 8 levels of 5 lines across",
+            "getids, 16 groups, 8 levels across",
             &State::nested(8, Maps::Across).with_own_ids(9),
             9,
             Kernel::None,
         ),
         own_ids(
-            "getids, 16 groups, 8 levels of 5 lines, each across",
+            "getids, 16 groups, 8 levels, each across",
             &State::nested(8, Maps::EachAcross).with_own_ids(9),
             9,
             Kernel::None,
         ),
         capable("capable, 1 level up", &common, NAMESPACE),
-        capable("capable, 32 levels up", &State::deep(32), 32),
+        capable("capable, 32 levels up", &State::deep(LAST_LEVEL), LAST_LEVEL),
     ]
 }
 

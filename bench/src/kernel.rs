@@ -1,5 +1,5 @@
-//! The host kernel's own calls, each measured in a child process, so that this one keeps its IDs and its namespace. A result is
-//! None where the kernel refuses.
+//! The host kernel's own calls, each measured in a child process, so that this one keeps its IDs and its namespace. A
+//! result is None where the kernel refuses.
 
 use std::ffi::{c_int, c_long, c_void};
 use std::fs::{File, OpenOptions};
@@ -10,6 +10,7 @@ use std::os::unix::fs::FileExt;
 use std::time::Instant;
 
 use crate::measure::{median, time};
+use crate::state::MAX_GROUPS;
 
 unsafe extern "C" {
     fn fork() -> c_int;
@@ -78,7 +79,8 @@ fn repeated(mut call: impl FnMut(usize) -> bool) -> Option<f64> {
     in_child(|| time(&(), CALLS, |(), index| call(index)))
 }
 
-/// Nanoseconds of a call that is made once. The clock is read before, since the first reading in a new process takes longer.
+/// Nanoseconds of a call that is made once. The clock is read before, since the first reading in a new process takes
+/// longer.
 fn once(call: impl FnOnce() -> bool) -> Option<f64> {
     black_box(Instant::now().elapsed());
     let start = Instant::now();
@@ -229,15 +231,15 @@ pub fn own_users() -> Option<f64> {
 
 /// The three calls that together tell a process its own IDs.
 pub fn own_ids(groups: &[u32]) -> Option<f64> {
-    let mut ids = [0; 16];
+    let mut ids = [0; MAX_GROUPS as usize];
     let list = ids.as_mut_ptr();
     let ask = || {
         let (mut r, mut e, mut s) = (0, 0, 0);
-        // SAFETY: each pointer is valid for writes, the last for sixteen.
+        // SAFETY: each pointer is valid for writes, the last for as many as are asked for.
         unsafe {
             getresuid(&mut r, &mut e, &mut s) == 0
                 && getresgid(&mut r, &mut e, &mut s) == 0
-                && getgroups(16, list) >= 0
+                && getgroups(MAX_GROUPS as c_int, list) >= 0
         }
     };
     in_child(|| {

@@ -1,6 +1,6 @@
-//! Times each call on the archive, on the reference program and, where it has one, on the host kernel, and prints one table.
-//! Times are nanoseconds of one call; 'times' says how many times the archive's the time before it is. With the argument
-//! `across` the calls are those through many levels of maps that run across at each level.
+//! Times each call on the archive, on the reference program and, where it has one, on the host kernel, and prints one
+//! table. Times are nanoseconds of one call; 'times' says how many times the archive's the time before it is. With
+//! the argument `across` the calls are those through many levels of maps that run across at each level.
 
 mod across;
 mod cases;

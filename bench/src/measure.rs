@@ -14,8 +14,8 @@ pub fn median(mut samples: Vec<f64>) -> f64 {
     samples[samples.len() / 2]
 }
 
-/// Nanoseconds of one call: `call` is given the tables and each number below `calls` in turn, and answers whether it is done.
-/// Nothing is subtracted, so a batch's share of reading the clock is in it. None where a call is refused.
+/// Nanoseconds of one call: `call` is given the tables and each number below `calls` in turn, and answers whether it
+/// is done. Nothing is subtracted, so a batch's share of reading the clock is in it. None where a call is refused.
 pub fn time<T: Clone>(
     saved: &T,
     calls: usize,

@@ -21,6 +21,8 @@ pub const FIVE_BELOW: &str =
 pub const MAPPED_IDS: u32 = 5000;
 /// An ID in the last of five lines.
 pub const LAST_LINE_ID: u32 = 4500;
+/// The most supplementary groups of a process.
+pub const MAX_GROUPS: u32 = 16;
 
 /// The maps of five lines from level 2 on.
 #[derive(Clone, Copy)]
@@ -117,8 +119,8 @@ impl State {
         state
     }
 
-    /// Namespaces one below the other with maps of five lines; the process at each level has the number one above it. The
-    /// deepest one's has sixteen supplementary groups.
+    /// Namespaces one below the other with maps of five lines; the process at each level has the number one above it.
+    /// The deepest one's has sixteen supplementary groups.
     pub fn deep(levels: u64) -> State {
         State::nested(levels, Maps::Whole)
     }
@@ -156,5 +158,5 @@ pub fn own_ids_of_last_line() -> [u32; 3] {
 
 /// Sixteen groups of the last of five lines.
 pub fn sixteen_groups() -> Vec<u32> {
-    (LAST_LINE_ID..LAST_LINE_ID + 16).collect()
+    (LAST_LINE_ID..LAST_LINE_ID + MAX_GROUPS).collect()
 }

@@ -37,7 +37,8 @@ pub struct Row {
 }
 
 impl Row {
-    /// The medians over the rows that several rounds have for one call; the kernel's is over the rounds that it refuses nothing in.
+    /// The medians over the rows that several rounds have for one call; the kernel's is over the rounds in which it
+    /// refuses nothing.
     fn median_of(rounds: &[&Row]) -> Row {
         let middle = |time: fn(&Row) -> f64| median(rounds.iter().map(|row| time(row)).collect());
         let kernel: Vec<f64> = rounds.iter().filter_map(|row| row.kernel.nanoseconds()).collect();
@@ -79,7 +80,7 @@ impl Row {
         let misses = self.misses();
         let verdict = if misses.is_empty() { "met".to_string() } else { misses.join(", ") };
         format!(
-            "| {:<54} | {:>7} | {:>12} | {:>9} | {:>7} | {:>9} | {:>7} | {:>5} | {} |",
+            "| {:<43} | {:>7} | {:>10} | {:>9} | {:>5} | {:>7} | {:>5} | {:>4}, {} |",
             self.name,
             number(self.archive),
             format!("{} to {}", number(self.range.0), number(self.range.1)),
@@ -114,11 +115,11 @@ pub fn medians(rounds: &[Vec<Row>]) -> Vec<Row> {
 /// Prints the table and how many rows miss a goal.
 pub fn print(rows: &[Row]) {
     println!(
-        "| {:<54} | {:>7} | {:>12} | {:>9} | {:>7} | {:>9} | {:>7} | {:>5} | result |",
+        "| {:<43} | {:>7} | {:>10} | {:>9} | {:>5} | {:>7} | {:>5} | {:>9} |",
         "call", "archive", "rounds", "reference", "times", "kernel", "times", "goal"
     );
     println!(
-        "|{:-<56}|--------:|-------------:|----------:|--------:|----------:|--------:|------:|---|",
+        "|{:-<45}|--------:|-----------:|----------:|------:|--------:|------:|----------:|",
         ""
     );
     for row in rows {

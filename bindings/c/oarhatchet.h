@@ -1,16 +1,17 @@
 /*
  * The tables of user namespaces and processes, and the calls on them.
  *
- * The tables are an array of OARHATCHET_TABLES words that the caller keeps and lends to each call. oarhatchet_initial fills it; after that
- * only these calls write it. A process or namespace may be named by any number: one that names nothing is refused. The pages in docs/calls
- * say in full what each call does.
+ * The tables are an array of OARHATCHET_TABLES words that the caller keeps and lends to each call.
+ * oarhatchet_initial fills it; after that only these calls write it. A process or namespace may be named by any
+ * number: one that names nothing is refused. The pages in docs/calls say in full what each call does.
  *
- * An answer of 0 or more is the call's own. A refusal is the negated number of an error, as -OARHATCHET_EPERM; it changes no table and
- * writes nothing to what is lent. Every call first finds the caller, then the process or namespace named, and answers -OARHATCHET_ESRCH
- * where there is none; the comments below name only the refusals that come after that, in the order in which they are tested.
+ * An answer of 0 or more is the call's own. A refusal is the negated number of an error, as -OARHATCHET_EPERM; it
+ * changes no table and writes nothing to what is lent. Every call first finds the caller, then the process or
+ * namespace named, and answers -OARHATCHET_ESRCH where there is none; the comments below name only the refusals
+ * that come after that, in the order in which they are tested.
  *
- * No pointer is NULL, not even where its length is 0. What is lent to one call does not overlap. Calls on different tables may run at the
- * same time, and so may those that take the tables as const.
+ * No pointer is NULL, not even where its length is 0. What is lent to one call does not overlap. Calls on different
+ * tables may run at the same time, and so may those that take the tables as const.
  */
 #ifndef OARHATCHET_H
 #define OARHATCHET_H
@@ -24,12 +25,25 @@ extern "C" {
 
 /* The words of the tables. */
 #define OARHATCHET_TABLES 18880
-/* The words that oarhatchet_getids writes: six IDs and sixteen places for groups. */
-#define OARHATCHET_IDS 22
-/* The answer of a translation where the ID is not mapped. It is no ID, in any namespace. */
-#define OARHATCHET_UNMAPPED INT64_C(4294967295)
-/* The ID that leaves one of the three as it is, in oarhatchet_setresuid and oarhatchet_setresgid. */
+/* The most supplementary groups of a process. */
+#define OARHATCHET_MAX_GROUPS 16
+/* The words that oarhatchet_getids writes: six IDs, and a place for each group. */
+#define OARHATCHET_IDS (6 + OARHATCHET_MAX_GROUPS)
+/*
+ * The value that means 'no ID', and is never mapped. In oarhatchet_setresuid and oarhatchet_setresgid it leaves an
+ * ID as it is.
+ */
 #define OARHATCHET_NO_ID UINT32_C(4294967295)
+/* The answer of a translation where the ID is not mapped. It is no ID, in any namespace. */
+#define OARHATCHET_UNMAPPED ((int64_t)OARHATCHET_NO_ID)
+/* What oarhatchet_getids shows for an ID that is not mapped in the caller's namespace. */
+#define OARHATCHET_OVERFLOW_ID UINT32_C(65534)
+
+/* The numbers of the capabilities that the calls ask for, and the highest that there is: capabilities(7). */
+#define OARHATCHET_CAP_SETGID 6
+#define OARHATCHET_CAP_SETUID 7
+#define OARHATCHET_CAP_SYS_ADMIN 21
+#define OARHATCHET_CAP_LAST_CAP 36
 
 /* The numbers of refusals. */
 enum oarhatchet_errno {
@@ -42,7 +56,10 @@ enum oarhatchet_errno {
     OARHATCHET_EUSERS = 87  /* level 33 asked for */
 };
 
-/* Fills the array with the initial tables: process 1 in namespace 0, all its IDs 0, no groups, both capability sets full. */
+/*
+ * Fills the array with the initial tables: process 1 in namespace 0, all its IDs 0, no groups, both capability sets
+ * full.
+ */
 void oarhatchet_initial(uint64_t tables[OARHATCHET_TABLES]);
 
 /*
@@ -52,100 +69,119 @@ void oarhatchet_initial(uint64_t tables[OARHATCHET_TABLES]);
 int64_t oarhatchet_fork(uint64_t tables[OARHATCHET_TABLES], uint64_t caller);
 
 /*
- * Makes a namespace below the caller's and a copy of the caller in it. Answers the child's number and stores the namespace's, each the
- * lowest unused one. The child has both capability sets full.
- * EUSERS: the caller's namespace has level 32. EPERM: the caller's effective user or group ID is not mapped in its namespace.
- * ENOSPC: 64 namespaces exist. EAGAIN: 128 processes exist.
+ * Makes a namespace below the caller's and a copy of the caller in it. Answers the child's number and stores the
+ * namespace's, each the lowest unused one. The child has both capability sets full.
+ * EUSERS: the caller's namespace has level 32. EPERM: the caller's effective user or group ID is not mapped in its
+ * namespace. ENOSPC: 64 namespaces exist. EAGAIN: 128 processes exist.
  */
 int64_t oarhatchet_clone(uint64_t tables[OARHATCHET_TABLES], uint64_t caller, uint64_t *new_namespace);
 
 /*
- * Makes a namespace below the caller's, moves the caller into it with both capability sets full, and answers the namespace's number.
+ * Makes a namespace below the caller's, moves the caller into it with both capability sets full, and answers the
+ * namespace's number.
  * EUSERS, EPERM, ENOSPC: as for oarhatchet_clone.
  */
 int64_t oarhatchet_unshare(uint64_t tables[OARHATCHET_TABLES], uint64_t caller);
 
 /*
  * Moves the caller into the namespace target, with both capability sets full, and answers 0.
- * EINVAL: the caller is in it already. EPERM: the caller does not hold SYS_ADMIN (21) in it.
+ * EINVAL: the caller is in it already. EPERM: the caller does not hold OARHATCHET_CAP_SYS_ADMIN in it.
  */
 int64_t oarhatchet_setns(uint64_t tables[OARHATCHET_TABLES], uint64_t caller, uint64_t target);
 
 /*
- * Writes the user map (group map) of the namespace that the process is in, which is done once, and answers 0. The text is one to five
- * lines of inside start, parent start and count.
- * EPERM: that namespace is namespace 0, or the caller is neither in it nor in its parent. EINVAL: the text has 0 or more than 4095 bytes.
- * EPERM: the map is written already, or the caller does not hold SETUID (7), for a group map SETGID (6), in the namespace. EINVAL: the
- * text is bad. EPERM: the caller does not hold that capability in the parent, and the text does more than map its own ID; or an ID of the
- * parent side is not in the parent's map.
+ * Writes the user map (group map) of the namespace that the process is in, which is done once, and answers 0. The
+ * text is one to five lines of inside start, parent start and count.
+ * EPERM: that namespace is namespace 0, or the caller is neither in it nor in its parent. EINVAL: the text has 0 or
+ * more than 4095 bytes. EPERM: the map is written already, or the caller does not hold OARHATCHET_CAP_SETUID, for a
+ * group map OARHATCHET_CAP_SETGID, in the namespace. EINVAL: the text is bad. EPERM: the caller does not hold that
+ * capability in the parent, and the text does more than map its own ID; or an ID of the parent side is not in the
+ * parent's map.
  */
-int64_t oarhatchet_write_uid_map(uint64_t tables[OARHATCHET_TABLES], uint64_t caller, uint64_t process, const uint8_t *text, size_t length);
-int64_t oarhatchet_write_gid_map(uint64_t tables[OARHATCHET_TABLES], uint64_t caller, uint64_t process, const uint8_t *text, size_t length);
+int64_t oarhatchet_write_uid_map(
+    uint64_t tables[OARHATCHET_TABLES], uint64_t caller, uint64_t process, const uint8_t *text, size_t length);
+int64_t oarhatchet_write_gid_map(
+    uint64_t tables[OARHATCHET_TABLES], uint64_t caller, uint64_t process, const uint8_t *text, size_t length);
 
 /*
- * Writes the setgroups setting of the namespace that the process is in, "allow" or "deny" with or without a newline, and answers 0.
- * EPERM: the caller does not hold SYS_ADMIN (21) in the namespace. EINVAL: the text is another. EPERM: "deny" after the group map is
- * written, or "allow" after "deny".
+ * Writes the setgroups setting of the namespace that the process is in, "allow" or "deny" with or without a
+ * newline, and answers 0.
+ * EPERM: the caller does not hold OARHATCHET_CAP_SYS_ADMIN in the namespace. EINVAL: the text is another. EPERM:
+ * "deny" after the group map is written, or "allow" after "deny".
  */
-int64_t oarhatchet_write_setgroups(uint64_t tables[OARHATCHET_TABLES], uint64_t caller, uint64_t process, const uint8_t *text, size_t length);
+int64_t oarhatchet_write_setgroups(
+    uint64_t tables[OARHATCHET_TABLES], uint64_t caller, uint64_t process, const uint8_t *text, size_t length);
 
 /*
- * Reads the user map (group map) of the namespace that the process is in, 33 bytes for each line, to the front of the buffer, and answers
- * the text's length, 0 for a map that is not written. Parent starts are shown as the caller sees them. No byte is written after the text.
+ * Reads the user map (group map) of the namespace that the process is in, 33 bytes for each line, to the front of
+ * the buffer, and answers the text's length, 0 for a map that is not written. Parent starts are shown as the caller
+ * sees them. No byte is written after the text.
  * ERANGE: the buffer is shorter than the text.
  */
-int64_t oarhatchet_read_uid_map(const uint64_t tables[OARHATCHET_TABLES], uint64_t caller, uint64_t process, uint8_t *buffer, size_t length);
-int64_t oarhatchet_read_gid_map(const uint64_t tables[OARHATCHET_TABLES], uint64_t caller, uint64_t process, uint8_t *buffer, size_t length);
+int64_t oarhatchet_read_uid_map(
+    const uint64_t tables[OARHATCHET_TABLES], uint64_t caller, uint64_t process, uint8_t *buffer, size_t length);
+int64_t oarhatchet_read_gid_map(
+    const uint64_t tables[OARHATCHET_TABLES], uint64_t caller, uint64_t process, uint8_t *buffer, size_t length);
 
 /*
- * Reads the setgroups setting of the namespace that the process is in, with a newline, to the front of the buffer, and answers the text's
- * length.
+ * Reads the setgroups setting of the namespace that the process is in, with a newline, to the front of the buffer,
+ * and answers the text's length.
  * ERANGE: the buffer is shorter than the text.
  */
-int64_t oarhatchet_read_setgroups(const uint64_t tables[OARHATCHET_TABLES], uint64_t caller, uint64_t process, uint8_t *buffer, size_t length);
+int64_t oarhatchet_read_setgroups(
+    const uint64_t tables[OARHATCHET_TABLES], uint64_t caller, uint64_t process, uint8_t *buffer, size_t length);
 
 /*
- * Sets the caller's real, effective and saved user IDs (group IDs), as IDs of its namespace, and answers 0. OARHATCHET_NO_ID leaves one as
- * it is. A caller whose user IDs leave ID 0 loses capabilities.
- * EINVAL: an ID is not mapped. EPERM: the caller does not hold SETUID (7), for group IDs SETGID (6), in its namespace, and one of the new
- * three is none of its present three.
+ * Sets the caller's real, effective and saved user IDs (group IDs), as IDs of its namespace, and answers 0.
+ * OARHATCHET_NO_ID leaves one as it is. A caller whose user IDs leave ID 0 loses capabilities.
+ * EINVAL: an ID is not mapped. EPERM: the caller does not hold OARHATCHET_CAP_SETUID, for group IDs
+ * OARHATCHET_CAP_SETGID, in its namespace, and one of the new three is none of its present three.
  */
-int64_t oarhatchet_setresuid(uint64_t tables[OARHATCHET_TABLES], uint64_t caller, uint32_t real, uint32_t effective, uint32_t saved);
-int64_t oarhatchet_setresgid(uint64_t tables[OARHATCHET_TABLES], uint64_t caller, uint32_t real, uint32_t effective, uint32_t saved);
+int64_t oarhatchet_setresuid(
+    uint64_t tables[OARHATCHET_TABLES], uint64_t caller, uint32_t real, uint32_t effective, uint32_t saved);
+int64_t oarhatchet_setresgid(
+    uint64_t tables[OARHATCHET_TABLES], uint64_t caller, uint32_t real, uint32_t effective, uint32_t saved);
 
 /*
  * Replaces the caller's supplementary groups by the list, in its order, and answers 0.
- * EPERM: the caller does not hold SETGID (6) in its namespace, or the group map there is not written, or the setting there is "deny".
- * EINVAL: the list has over 16 IDs, or one is not mapped.
+ * EPERM: the caller does not hold OARHATCHET_CAP_SETGID in its namespace, or the group map there is not written, or
+ * the setting there is "deny". EINVAL: the list has over OARHATCHET_MAX_GROUPS IDs, or one is not mapped.
  */
 int64_t oarhatchet_setgroups(uint64_t tables[OARHATCHET_TABLES], uint64_t caller, const uint32_t *list, size_t count);
 
 /*
  * Answers 1 where the caller holds the capability of this number in the namespace target, else 0.
- * EINVAL: the number is over 36.
+ * EINVAL: the number is over OARHATCHET_CAP_LAST_CAP.
  */
-int64_t oarhatchet_capable(const uint64_t tables[OARHATCHET_TABLES], uint64_t caller, uint64_t target, uint32_t number);
+int64_t oarhatchet_capable(
+    const uint64_t tables[OARHATCHET_TABLES], uint64_t caller, uint64_t target, uint32_t number);
 
 /*
  * Sets the caller's permitted and effective capability sets, bit n for capability n, and answers 0.
  * EPERM: the permitted set gains a capability, or the effective set has one that the permitted set has not.
  */
-int64_t oarhatchet_capset(uint64_t tables[OARHATCHET_TABLES], uint64_t caller, uint64_t permitted, uint64_t effective);
+int64_t oarhatchet_capset(
+    uint64_t tables[OARHATCHET_TABLES], uint64_t caller, uint64_t permitted, uint64_t effective);
 
 /*
- * Stores the caller's own IDs as its namespace shows them: real, effective and saved user ID, the same three of the group, then the
- * supplementary groups in order and zeros after the last. An ID that is not mapped shows as 65534. Answers the number of groups.
+ * Stores the caller's own IDs as its namespace shows them: real, effective and saved user ID, the same three of the
+ * group, then the supplementary groups in order and zeros after the last. An ID that is not mapped shows as
+ * OARHATCHET_OVERFLOW_ID. Answers the number of groups.
  */
 int64_t oarhatchet_getids(const uint64_t tables[OARHATCHET_TABLES], uint64_t caller, uint32_t ids[OARHATCHET_IDS]);
 
 /*
- * Translates a user ID (group ID) of the namespace target out to the initial namespace, or one of the initial namespace back to target.
- * Answers the ID, or OARHATCHET_UNMAPPED.
+ * Translates a user ID (group ID) of the namespace target out to the initial namespace, or one of the initial
+ * namespace back to target. Answers the ID, or OARHATCHET_UNMAPPED.
  */
-int64_t oarhatchet_translate_uid_out(const uint64_t tables[OARHATCHET_TABLES], uint64_t caller, uint64_t target, uint32_t id);
-int64_t oarhatchet_translate_uid_back(const uint64_t tables[OARHATCHET_TABLES], uint64_t caller, uint64_t target, uint32_t id);
-int64_t oarhatchet_translate_gid_out(const uint64_t tables[OARHATCHET_TABLES], uint64_t caller, uint64_t target, uint32_t id);
-int64_t oarhatchet_translate_gid_back(const uint64_t tables[OARHATCHET_TABLES], uint64_t caller, uint64_t target, uint32_t id);
+int64_t oarhatchet_translate_uid_out(
+    const uint64_t tables[OARHATCHET_TABLES], uint64_t caller, uint64_t target, uint32_t id);
+int64_t oarhatchet_translate_uid_back(
+    const uint64_t tables[OARHATCHET_TABLES], uint64_t caller, uint64_t target, uint32_t id);
+int64_t oarhatchet_translate_gid_out(
+    const uint64_t tables[OARHATCHET_TABLES], uint64_t caller, uint64_t target, uint32_t id);
+int64_t oarhatchet_translate_gid_back(
+    const uint64_t tables[OARHATCHET_TABLES], uint64_t caller, uint64_t target, uint32_t id);
 
 #ifdef __cplusplus
 }

@@ -5,8 +5,12 @@
 #include <stdlib.h>
 #include <string.h>
 
-enum { SETGID = 6, SETUID = 7, SYS_ADMIN = 21 };
-#define FULL UINT64_C(0x1fffffffff)
+/* The set of all capabilities. */
+#define FULL ((UINT64_C(1) << (OARHATCHET_CAP_LAST_CAP + 1)) - 1)
+/* The set of one capability. */
+#define ONLY(capability) (UINT64_C(1) << (capability))
+/* The bytes of a line of a map that is read; how many namespaces and processes there may be, and how many levels. */
+enum { LINE = 33, NAMESPACES = 64, PROCESSES = 128, LEVELS = 32 };
 
 static uint64_t tables[OARHATCHET_TABLES];
 static uint64_t before[OARHATCHET_TABLES];
@@ -69,9 +73,9 @@ static void a_member_maps_itself_once(void)
     start();
     CHECK(write_uid_map(2, 2, "0 1000 1"), 0);
     memset(buffer, '.', sizeof buffer);
-    CHECK(oarhatchet_read_uid_map(tables, 2, 2, buffer, 32), -OARHATCHET_ERANGE);
+    CHECK(oarhatchet_read_uid_map(tables, 2, 2, buffer, LINE - 1), -OARHATCHET_ERANGE);
     CHECK(holds(buffer, sizeof buffer, ""), 1);
-    CHECK(oarhatchet_read_uid_map(tables, 2, 2, buffer, sizeof buffer), 33);
+    CHECK(oarhatchet_read_uid_map(tables, 2, 2, buffer, sizeof buffer), LINE);
     CHECK(holds(buffer, sizeof buffer, text), 1);
     CHECK(write_uid_map(2, 2, "0 1000 1"), -OARHATCHET_EPERM);
 }
@@ -94,7 +98,7 @@ static void a_member_maps_its_group_after_deny(void)
     CHECK(write_gid_map(2, 2, "0 1000 1"), 0);
     CHECK(oarhatchet_setgroups(tables, 2, list, 1), -OARHATCHET_EPERM);
     memset(buffer, '.', sizeof buffer);
-    CHECK(oarhatchet_read_gid_map(tables, 2, 2, buffer, sizeof buffer), 33);
+    CHECK(oarhatchet_read_gid_map(tables, 2, 2, buffer, sizeof buffer), LINE);
     CHECK(holds(buffer, sizeof buffer, "         0       1000          1\n"), 1);
     memset(buffer, '.', sizeof buffer);
     CHECK(oarhatchet_read_setgroups(tables, 2, 2, buffer, sizeof buffer), 5);
@@ -112,7 +116,7 @@ static void the_parent_maps_a_range(void)
     CHECK(oarhatchet_translate_uid_out(tables, 1, 1, 65536), OARHATCHET_UNMAPPED);
     CHECK(oarhatchet_translate_uid_back(tables, 2, 1, 165535), 65535);
     CHECK(oarhatchet_translate_uid_back(tables, 2, 1, 165536), OARHATCHET_UNMAPPED);
-    CHECK(oarhatchet_translate_uid_out(tables, 1, 0, UINT32_C(4294967294)), INT64_C(4294967294));
+    CHECK(oarhatchet_translate_uid_out(tables, 1, 0, OARHATCHET_NO_ID - 1), INT64_C(4294967294));
     CHECK(oarhatchet_translate_gid_out(tables, 1, 1, 0), OARHATCHET_UNMAPPED);
     CHECK(write_gid_map(1, 2, "0 5 3"), 0);
     CHECK(oarhatchet_translate_gid_out(tables, 1, 1, 0), 5);
@@ -141,9 +145,12 @@ static void the_text_of_a_map(void)
 
 static void an_unmapped_process_makes_no_namespace(void)
 {
+    uint32_t ids[OARHATCHET_IDS];
     uint64_t space = 77;
 
     start();
+    CHECK(oarhatchet_getids(tables, 2, ids), 0);
+    CHECK(ids[0], OARHATCHET_OVERFLOW_ID);
     CHECK(oarhatchet_unshare(tables, 2), -OARHATCHET_EPERM);
     CHECK(oarhatchet_clone(tables, 2, &space), -OARHATCHET_EPERM);
     CHECK((int64_t)space, 77);
@@ -152,15 +159,15 @@ static void an_unmapped_process_makes_no_namespace(void)
 static void the_owner_in_the_parent_holds_capabilities(void)
 {
     start();
-    CHECK(oarhatchet_capable(tables, 1, 1, SYS_ADMIN), 1);
-    CHECK(oarhatchet_capable(tables, 2, 0, SYS_ADMIN), 0);
+    CHECK(oarhatchet_capable(tables, 1, 1, OARHATCHET_CAP_SYS_ADMIN), 1);
+    CHECK(oarhatchet_capable(tables, 2, 0, OARHATCHET_CAP_SYS_ADMIN), 0);
     CHECK(oarhatchet_fork(tables, 1), 3);
     CHECK(oarhatchet_setresuid(tables, 3, 1000, 1000, 1000), 0);
-    CHECK(oarhatchet_capable(tables, 3, 0, SYS_ADMIN), 0);
-    CHECK(oarhatchet_capable(tables, 3, 1, SYS_ADMIN), 1);
+    CHECK(oarhatchet_capable(tables, 3, 0, OARHATCHET_CAP_SYS_ADMIN), 0);
+    CHECK(oarhatchet_capable(tables, 3, 1, OARHATCHET_CAP_SYS_ADMIN), 1);
     CHECK(oarhatchet_fork(tables, 1), 4);
     CHECK(oarhatchet_setresuid(tables, 4, 1001, 1001, 1001), 0);
-    CHECK(oarhatchet_capable(tables, 4, 1, SYS_ADMIN), 0);
+    CHECK(oarhatchet_capable(tables, 4, 1, OARHATCHET_CAP_SYS_ADMIN), 0);
     CHECK(oarhatchet_setns(tables, 3, 1), 0);
     CHECK(oarhatchet_setns(tables, 3, 0), -OARHATCHET_EPERM);
     CHECK(oarhatchet_setns(tables, 3, 1), -OARHATCHET_EINVAL);
@@ -171,14 +178,14 @@ static void levels_reach_32(void)
     uint64_t level, space = 0;
 
     oarhatchet_initial(tables);
-    for (level = 1; level <= 32; level++) {
+    for (level = 1; level <= LEVELS; level++) {
         CHECK(oarhatchet_clone(tables, level, &space), (int64_t)level + 1);
         CHECK((int64_t)space, (int64_t)level);
         CHECK(write_uid_map(level, level + 1, "0 0 4294967295"), 0);
         CHECK(write_gid_map(level, level + 1, "0 0 4294967295"), 0);
     }
-    CHECK(oarhatchet_unshare(tables, 33), -OARHATCHET_EUSERS);
-    CHECK(oarhatchet_translate_uid_out(tables, 1, 32, 5), 5);
+    CHECK(oarhatchet_unshare(tables, LEVELS + 1), -OARHATCHET_EUSERS);
+    CHECK(oarhatchet_translate_uid_out(tables, 1, LEVELS, 5), 5);
 }
 
 static void full_tables_refuse(void)
@@ -187,11 +194,11 @@ static void full_tables_refuse(void)
     int64_t i;
 
     oarhatchet_initial(tables);
-    for (i = 1; i < 64; i++)
+    for (i = 1; i < NAMESPACES; i++)
         CHECK(oarhatchet_clone(tables, 1, &space), i + 1);
-    CHECK((int64_t)space, 63);
+    CHECK((int64_t)space, NAMESPACES - 1);
     CHECK(oarhatchet_unshare(tables, 1), -OARHATCHET_ENOSPC);
-    for (i = 65; i <= 128; i++)
+    for (i = NAMESPACES + 1; i <= PROCESSES; i++)
         CHECK(oarhatchet_fork(tables, 1), i);
     CHECK(oarhatchet_fork(tables, 1), -OARHATCHET_EAGAIN);
 }
@@ -199,18 +206,18 @@ static void full_tables_refuse(void)
 static void own_ids_and_sets(void)
 {
     uint32_t ids[OARHATCHET_IDS];
-    uint32_t list[17] = {7, 100003, 7};
+    uint32_t list[OARHATCHET_MAX_GROUPS + 1] = {7, 100003, 7};
     size_t i;
 
     oarhatchet_initial(tables);
-    CHECK(oarhatchet_setgroups(tables, 1, list, 17), -OARHATCHET_EINVAL);
+    CHECK(oarhatchet_setgroups(tables, 1, list, OARHATCHET_MAX_GROUPS + 1), -OARHATCHET_EINVAL);
     CHECK(oarhatchet_setgroups(tables, 1, list, 3), 0);
     CHECK(oarhatchet_setresgid(tables, 1, OARHATCHET_NO_ID, 5, OARHATCHET_NO_ID), 0);
     CHECK(oarhatchet_setresuid(tables, 1, OARHATCHET_NO_ID, OARHATCHET_NO_ID, 9), 0);
     memset(ids, 0xff, sizeof ids);
     CHECK(oarhatchet_getids(tables, 9, ids), -OARHATCHET_ESRCH);
     for (i = 0; i < OARHATCHET_IDS; i++)
-        CHECK(ids[i], INT64_C(0xffffffff));
+        CHECK(ids[i], OARHATCHET_NO_ID);
     CHECK(oarhatchet_getids(tables, 1, ids), 3);
     CHECK(ids[2], 9);
     CHECK(ids[4], 5);
@@ -221,12 +228,12 @@ static void own_ids_and_sets(void)
         CHECK(ids[i], 0);
     CHECK(oarhatchet_setgroups(tables, 1, list, 0), 0);
     CHECK(oarhatchet_getids(tables, 1, ids), 0);
-    CHECK(oarhatchet_capset(tables, 1, 1 << SETUID, 0), 0);
-    CHECK(oarhatchet_capable(tables, 1, 0, SETUID), 0);
-    CHECK(oarhatchet_capset(tables, 1, 1 << SETUID, 1 << SETUID), 0);
-    CHECK(oarhatchet_capable(tables, 1, 0, SETUID), 1);
-    CHECK(oarhatchet_capable(tables, 1, 0, SETGID), 0);
-    CHECK(oarhatchet_capable(tables, 1, 0, 37), -OARHATCHET_EINVAL);
+    CHECK(oarhatchet_capset(tables, 1, ONLY(OARHATCHET_CAP_SETUID), 0), 0);
+    CHECK(oarhatchet_capable(tables, 1, 0, OARHATCHET_CAP_SETUID), 0);
+    CHECK(oarhatchet_capset(tables, 1, ONLY(OARHATCHET_CAP_SETUID), ONLY(OARHATCHET_CAP_SETUID)), 0);
+    CHECK(oarhatchet_capable(tables, 1, 0, OARHATCHET_CAP_SETUID), 1);
+    CHECK(oarhatchet_capable(tables, 1, 0, OARHATCHET_CAP_SETGID), 0);
+    CHECK(oarhatchet_capable(tables, 1, 0, OARHATCHET_CAP_LAST_CAP + 1), -OARHATCHET_EINVAL);
     CHECK(oarhatchet_capset(tables, 1, FULL, 0), -OARHATCHET_EPERM);
     CHECK(oarhatchet_setresgid(tables, 1, 8, 8, 8), -OARHATCHET_EPERM);
 }
@@ -234,7 +241,7 @@ static void own_ids_and_sets(void)
 /* A name that names nothing is refused by every call, and no word of the tables changes. */
 static void names_that_name_nothing(void)
 {
-    uint64_t names[] = {0, 3, 128, 129, UINT64_MAX};
+    uint64_t names[] = {0, 3, PROCESSES, PROCESSES + 1, UINT64_MAX};
     uint8_t buffer[4] = {'.', '.', '.', '.'};
     uint32_t ids[OARHATCHET_IDS] = {0};
     uint64_t space = 77;
@@ -257,13 +264,13 @@ static void names_that_name_nothing(void)
         CHECK(oarhatchet_setresuid(tables, name, 0, 0, 0), -OARHATCHET_ESRCH);
         CHECK(oarhatchet_setresgid(tables, name, 0, 0, 0), -OARHATCHET_ESRCH);
         CHECK(oarhatchet_setgroups(tables, name, ids, 0), -OARHATCHET_ESRCH);
-        CHECK(oarhatchet_capable(tables, name, 1, SYS_ADMIN), -OARHATCHET_ESRCH);
+        CHECK(oarhatchet_capable(tables, name, 1, OARHATCHET_CAP_SYS_ADMIN), -OARHATCHET_ESRCH);
         CHECK(oarhatchet_capset(tables, name, 0, 0), -OARHATCHET_ESRCH);
         CHECK(oarhatchet_getids(tables, name, ids), -OARHATCHET_ESRCH);
         CHECK(oarhatchet_translate_uid_out(tables, name, 1, 0), -OARHATCHET_ESRCH);
     }
     CHECK(oarhatchet_setns(tables, 1, 2), -OARHATCHET_ESRCH);
-    CHECK(oarhatchet_capable(tables, 1, 64, SYS_ADMIN), -OARHATCHET_ESRCH);
+    CHECK(oarhatchet_capable(tables, 1, NAMESPACES, OARHATCHET_CAP_SYS_ADMIN), -OARHATCHET_ESRCH);
     CHECK(oarhatchet_translate_gid_back(tables, 1, 2, 0), -OARHATCHET_ESRCH);
     CHECK(memcmp(before, tables, sizeof tables), 0);
     CHECK(holds(buffer, sizeof buffer, ""), 1);

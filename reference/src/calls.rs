@@ -8,6 +8,7 @@ use crate::namespace::{Namespace, SetgroupsSetting};
 use crate::process::{Ids, KernelId, Process};
 use crate::tables::{Tables, MAX_LEVEL};
 
+/// "up to 16 supplementary groups"
 pub const MAX_GROUPS: usize = 16;
 /// What an untranslatable ID shows as when a process asks for its own IDs.
 pub const OVERFLOW_ID: u32 = 65_534;

@@ -1,5 +1,6 @@
 //! Capability numbers and capability sets.
 
+/// "Capability numbers: SETGID 6, SETUID 7, SYS_ADMIN 21."
 pub const SETGID: u32 = 6;
 pub const SETUID: u32 = 7;
 pub const SYS_ADMIN: u32 = 21;

@@ -2,9 +2,12 @@
 
 use crate::answer::Rule;
 
-/// The value that means "no ID"; it is never mapped.
+/// The value that means "no ID"; it is never mapped. It is also the most that a number of a map's text may be, and that
+/// a start plus a count may be.
 pub const NO_ID: u32 = 4_294_967_295;
+/// The most lines of a map.
 pub const MAX_LINES: usize = 5;
+/// The most bytes of the text of a map that is written.
 pub const MAX_TEXT: usize = 4_095;
 
 /// User IDs with the user maps, or group IDs with the group maps.
@@ -60,7 +63,7 @@ pub enum IdMap {
 impl IdMap {
     /// "Namespace 0 has the fixed line 0 0 4294967295 in both."
     pub fn initial() -> IdMap {
-        IdMap::Written(vec![Line { inside: 0, parent: 0, count: 4_294_967_295 }])
+        IdMap::Written(vec![Line { inside: 0, parent: 0, count: NO_ID }])
     }
 
     /// The lines in the order written; an unwritten map has none.
@@ -170,7 +173,7 @@ fn parse_number(digits: &[u8]) -> Result<u32, Rule> {
     let mut value: u64 = 0;
     for digit in digits {
         value = value * 10 + u64::from(digit - b'0');
-        if value > 4_294_967_295 {
+        if value > u64::from(NO_ID) {
             return Err(Rule::NumberOverTop);
         }
     }

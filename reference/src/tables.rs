@@ -7,8 +7,11 @@ use crate::id_map::Kind;
 use crate::namespace::Namespace;
 use crate::process::{KernelId, Process};
 
+/// "At most 64 namespaces, numbered 0 to 63"
 pub const MAX_NAMESPACES: u64 = 64;
+/// "The process table has 128 places"
 pub const MAX_PROCESSES: u64 = 128;
+/// "Levels reach 32 at most."
 pub const MAX_LEVEL: u32 = 32;
 
 #[derive(Clone, PartialEq, Eq, Debug)]

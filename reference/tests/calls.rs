@@ -3,6 +3,7 @@
 mod common;
 
 use common::{check, check_member};
+use reference::id_map::MAX_TEXT;
 use reference::{Answer, Call, Errno, Kind, Rule, Tables};
 
 #[test]
@@ -28,8 +29,8 @@ fn the_caller_comes_first_and_then_the_named() {
 
 #[test]
 fn a_map_write_refuses_in_order() {
-    let long = "0 0 1".to_string() + &" ".repeat(4_091);
-    let fits = &long[..4_095];
+    let long = format!("{:<1$}", "0 0 1", MAX_TEXT + 1);
+    let fits = &long[..MAX_TEXT];
     check_member(&format!(
         r#"
         fork 1 => child 3

@@ -1,6 +1,6 @@
 //! The text rules of maps.
 
-use reference::id_map::{parse, IdMap, Line};
+use reference::id_map::{parse, IdMap, Line, NO_ID};
 use reference::Rule;
 
 fn numbers(text: &str) -> Result<Vec<[u32; 3]>, Rule> {
@@ -16,7 +16,7 @@ fn good_texts() {
         assert_eq!(numbers(text), Ok(vec![[1, 2, 3]]), "{text:?}");
     }
     assert_eq!(numbers("5 0 5\n0 5 5"), Ok(vec![[5, 0, 5], [0, 5, 5]]));
-    assert_eq!(numbers("4294967294 4294967294 1"), Ok(vec![[4294967294, 4294967294, 1]]));
+    assert_eq!(numbers("4294967294 4294967294 1"), Ok(vec![[NO_ID - 1, NO_ID - 1, 1]]));
 }
 
 #[test]
@@ -60,11 +60,11 @@ fn lookups_go_there_and_back() {
     assert_eq!(map.to_parent(10), Some(100));
     assert_eq!(map.to_parent(14), Some(104));
     assert_eq!(map.to_parent(15), None);
-    assert_eq!(map.to_parent(4294967294), Some(11));
-    assert_eq!(map.to_parent(4294967295), None);
-    assert_eq!(map.from_parent(11), Some(4294967294));
+    assert_eq!(map.to_parent(NO_ID - 1), Some(11));
+    assert_eq!(map.to_parent(NO_ID), None);
+    assert_eq!(map.from_parent(11), Some(NO_ID - 1));
     assert_eq!(map.from_parent(12), None);
     assert!(map.covers(10, 5) && !map.covers(10, 6) && !map.covers(9, 1));
     assert_eq!(IdMap::Unwritten.to_parent(0), None);
-    assert_eq!(IdMap::initial().to_parent(4294967295), None);
+    assert_eq!(IdMap::initial().to_parent(NO_ID), None);
 }

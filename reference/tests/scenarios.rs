@@ -3,6 +3,7 @@
 mod common;
 
 use common::{check, check_member};
+use reference::tables::{MAX_LEVEL, MAX_NAMESPACES, MAX_PROCESSES};
 
 #[test]
 fn a_member_maps_itself_once() {
@@ -121,26 +122,28 @@ fn descend(levels: u64) -> String {
 
 #[test]
 fn levels_reach_32() {
-    check(&(descend(31) + "unshare 32 => namespace 32\ngetids 32 => uid 65534 65534 65534 gid 65534 65534 65534 groups"));
-    check(&(descend(32) + "unshare 33 => refused 87 EUSERS\nclone 33 => refused 87 EUSERS"));
-    check(&(descend(32) + "capable 1 32 0 => yes\ncapable 33 31 0 => no\nsetns 1 32 => done"));
+    let below = "uid 65534 65534 65534 gid 65534 65534 65534 groups";
+    let last = u64::from(MAX_LEVEL);
+    check(&(descend(last - 1) + &format!("unshare 32 => namespace 32\ngetids 32 => {below}")));
+    check(&(descend(last) + "unshare 33 => refused 87 EUSERS\nclone 33 => refused 87 EUSERS"));
+    check(&(descend(last) + "capable 1 32 0 => yes\ncapable 33 31 0 => no\nsetns 1 32 => done"));
 }
 
 #[test]
 fn full_tables_refuse() {
     let mut table = String::from("fresh => fresh\n");
-    for name in 1..64 {
+    for name in 1..MAX_NAMESPACES {
         table += &format!("clone 1 => child {} namespace {name}\n", name + 1);
     }
     table += "clone 1 => refused 28 ENOSPC\nunshare 1 => refused 28 ENOSPC\n";
-    for child in 65..=128 {
+    for child in MAX_NAMESPACES + 1..=MAX_PROCESSES {
         table += &format!("fork 1 => child {child}\n");
     }
     table += "fork 1 => refused 11 EAGAIN\nclone 1 => refused 28 ENOSPC\n";
     table += "clone 2 => refused 1 EPERM\n";
     check(&table);
     let mut table = String::from("fresh => fresh\n");
-    for child in 2..=128 {
+    for child in 2..=MAX_PROCESSES {
         table += &format!("fork 1 => child {child}\n");
     }
     table += "clone 128 => refused 11 EAGAIN\nunshare 128 => namespace 1\n";

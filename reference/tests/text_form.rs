@@ -1,5 +1,6 @@
 //! The text form of calls and answers, sentence by sentence.
 
+use reference::id_map::NO_ID;
 use reference::script::{output_of, parse, Item, Malformed, MAX_LINE};
 use reference::{show, Answer, Call, Kind};
 
@@ -60,7 +61,7 @@ fn numbers_are_decimal_or_hexadecimal() {
 fn ids_have_32_bits() {
     assert!(matches!(
         parse(b"setresuid 1 0xffffffff 4294967295 0"),
-        Item::Call(Call::SetIds { kind: Kind::User, caller: 1, ids: [u32::MAX, u32::MAX, 0] })
+        Item::Call(Call::SetIds { kind: Kind::User, caller: 1, ids: [NO_ID, NO_ID, 0] })
     ));
     for line in [
         "setresuid 1 4294967296 0 0",

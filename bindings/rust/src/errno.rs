@@ -1,9 +1,11 @@
 //! The refusals of calls, with Linux' names and numbers.
 
 use std::error::Error;
-use std::fmt;
+use std::{fmt, io};
 
 /// Why a call is refused. A refused call changes no table and writes nothing to a lent buffer.
+///
+/// Calls that are added later may refuse for other reasons, so a `match` has a case for them.
 ///
 /// ```
 /// use oarhatchet::{Errno, Tables};
@@ -14,6 +16,7 @@ use std::fmt;
 /// assert_eq!(refusal.to_string(), "ESRCH: no such process or namespace");
 /// ```
 #[derive(Clone, Copy, PartialEq, Eq, Hash, Debug)]
+#[non_exhaustive]
 pub enum Errno {
     /// 1: not permitted.
     Eperm,
@@ -32,8 +35,8 @@ pub enum Errno {
 }
 
 impl Errno {
-    /// Every refusal.
-    pub const ALL: [Errno; 7] = [
+    /// Every refusal, by number.
+    pub const ALL: &'static [Errno] = &[
         Errno::Eperm,
         Errno::Esrch,
         Errno::Eagain,
@@ -90,11 +93,30 @@ impl fmt::Display for Errno {
 
 impl Error for Errno {}
 
+/// The system's error of the same number, so that `?` works in a function that answers an [`io::Result`].
+///
+/// ```
+/// use std::io;
+///
+/// fn second_bay(tables: &mut oarhatchet::Tables) -> io::Result<u64> {
+///     tables.clone_process(1)?;
+///     Ok(tables.clone_process(1)?.namespace)
+/// }
+///
+/// assert_eq!(second_bay(&mut oarhatchet::Tables::new())?, 2);
+/// # Ok::<(), io::Error>(())
+/// ```
+impl From<Errno> for io::Error {
+    fn from(errno: Errno) -> io::Error {
+        io::Error::from_raw_os_error(errno.number() as i32)
+    }
+}
+
 /// What the number that a call gives means: its answer, or the refusal whose number is negated.
 pub(crate) fn result_of(code: i64) -> Result<u64, Errno> {
     if let Ok(answer) = u64::try_from(code) {
         return Ok(answer);
     }
-    let refusal = Errno::ALL.into_iter().find(|errno| code == -i64::from(errno.number()));
-    Err(refusal.unwrap_or_else(|| panic!("the archive answers {code}, which is no refusal")))
+    let refusal = Errno::ALL.iter().find(|errno| code == -i64::from(errno.number()));
+    Err(*refusal.unwrap_or_else(|| panic!("the archive answers {code}, which is no refusal")))
 }

@@ -1,19 +1,21 @@
 //! The calls as the archive exports them. All the unsafe code is here.
 //!
-//! The declarations are those of `bindings/c/oarhatchet.h`. A function that takes references to single arrays and numbers alone
-//! asks nothing more of its caller, so it is declared safe. A slice crosses as its pointer and its length, so the functions that
-//! take one are unsafe here, and a safe function stands above each.
+//! The declarations are those of `bindings/c/oarhatchet.h`. A function that takes references to single arrays and
+//! numbers alone asks nothing more of its caller, so it is declared safe. A slice crosses as its pointer and its
+//! length, so the functions that take one are unsafe here, and a safe function stands above each.
 //!
-//! The archive's code has no state of its own, keeps no pointer and writes nothing behind a pointer to const. References and
-//! slices are never null, and the borrow checker keeps what is lent to one call from overlapping.
+//! The archive's code has no state of its own, keeps no pointer and writes nothing behind a pointer to const.
+//! References and slices are never null, and the borrow checker keeps what is lent to one call from overlapping.
 #![allow(unsafe_code)]
+
+use crate::groups::MAX_GROUPS;
 
 /// The words of the tables.
 pub const WORDS: usize = 18880;
 pub type Words = [u64; WORDS];
 
-/// What the own-ID question writes: six IDs and sixteen places for groups.
-pub const IDS: usize = 22;
+/// What the own-ID question writes: six IDs, and a place for each group.
+pub const IDS: usize = 6 + MAX_GROUPS;
 
 unsafe extern "C" {
     pub safe fn oarhatchet_initial(tables: &mut Words);

@@ -4,6 +4,9 @@ use std::fmt;
 use std::hash::{Hash, Hasher};
 use std::ops::Deref;
 
+/// The most supplementary groups of a process.
+pub(crate) const MAX_GROUPS: usize = 16;
+
 /// The supplementary groups of a process, at most sixteen, in order. It is used as the slice of them.
 ///
 /// ```
@@ -17,12 +20,12 @@ use std::ops::Deref;
 #[derive(Clone, Copy)]
 pub struct Groups {
     count: usize,
-    places: [u32; 16],
+    places: [u32; MAX_GROUPS],
 }
 
 impl Groups {
-    /// The first of sixteen places.
-    pub(crate) fn first(count: usize, places: [u32; 16]) -> Groups {
+    /// The first of the places.
+    pub(crate) fn first(count: usize, places: [u32; MAX_GROUPS]) -> Groups {
         Groups { count, places }
     }
 }
@@ -31,7 +34,7 @@ impl Deref for Groups {
     type Target = [u32];
 
     fn deref(&self) -> &[u32] {
-        &self.places[..self.count.min(16)]
+        &self.places[..self.count.min(MAX_GROUPS)]
     }
 }
 

@@ -6,17 +6,20 @@ use crate::errno::{result_of, Errno};
 use crate::ffi::{self, Words};
 use crate::{Child, Groups, Kind, OwnIds, Way};
 
-/// The length of the first buffer that the reads of whole texts lend: five lines of 33 bytes.
-const FIRST_BUFFER: usize = 165;
+/// The most lines of a map, and the bytes of each in the text of a read.
+const MAX_LINES: usize = 5;
+const LINE_LENGTH: usize = 33;
+/// The length of the first buffer that the reads of whole texts lend.
+const FIRST_BUFFER: usize = MAX_LINES * LINE_LENGTH;
 
 /// The tables of namespaces and processes. Only the calls change them.
 ///
-/// In each call `caller` names the process that makes it. Every call first finds the caller, then the process or namespace
-/// named, and refuses with [`Errno::Esrch`] where there is none; the other refusals stand at each call, in the order in which
-/// they are tested. A refused call changes nothing.
+/// In each call `caller` names the process that makes it. Every call first finds the caller, then the process or
+/// namespace named, and refuses with [`Errno::Esrch`] where there is none; the other refusals stand at each call, in
+/// the order in which they are tested. A refused call changes nothing.
 ///
-/// The array is in one box, so a value is cheap to move. It may be sent to other threads, and questions and reads may be asked
-/// from several at once.
+/// The array is in one box, so a value is cheap to move. It may be sent to other threads, and questions and reads may
+/// be asked from several at once.
 pub struct Tables {
     words: Box<Words>,
 }
@@ -53,12 +56,12 @@ impl Tables {
         result_of(ffi::oarhatchet_fork(&mut self.words, caller))
     }
 
-    /// Makes a namespace below the caller's and a copy of the caller in it, with both capability sets full. This is the call
-    /// clone with a new user namespace.
+    /// Makes a namespace below the caller's and a copy of the caller in it, with both capability sets full. This is
+    /// the call clone with a new user namespace.
     ///
-    /// Refuses with [`Errno::Eusers`] where the caller's namespace has level 32; [`Errno::Eperm`] where the caller's effective
-    /// user or group ID is not mapped in its namespace; [`Errno::Enospc`] where 64 namespaces exist; [`Errno::Eagain`] where 128
-    /// processes exist.
+    /// Refuses with [`Errno::Eusers`] where the caller's namespace has level 32; [`Errno::Eperm`] where the caller's
+    /// effective user or group ID is not mapped in its namespace; [`Errno::Enospc`] where 64 namespaces exist;
+    /// [`Errno::Eagain`] where 128 processes exist.
     ///
     /// ```
     /// use oarhatchet::{Child, Errno, Tables};
@@ -91,8 +94,8 @@ impl Tables {
 
     /// Moves the caller into a namespace that exists, with both capability sets full.
     ///
-    /// Refuses with [`Errno::Einval`] where the caller is in it already; [`Errno::Eperm`] where the caller does not hold
-    /// SYS_ADMIN (21) in it.
+    /// Refuses with [`Errno::Einval`] where the caller is in it already; [`Errno::Eperm`] where the caller does not
+    /// hold [`CAP_SYS_ADMIN`](crate::CAP_SYS_ADMIN) in it.
     ///
     /// ```
     /// use oarhatchet::{Errno, Tables};
@@ -107,14 +110,15 @@ impl Tables {
         done(ffi::oarhatchet_setns(&mut self.words, caller, namespace))
     }
 
-    /// Writes the user or group map of the namespace that the process is in, which is done once. The text is one to five lines
-    /// of inside start, parent start and count.
+    /// Writes the user or group map of the namespace that the process is in, which is done once. The text is one to
+    /// five lines of inside start, parent start and count.
     ///
-    /// Refuses with [`Errno::Eperm`] where that namespace is namespace 0, or the caller is neither in it nor in its parent;
-    /// [`Errno::Einval`] where the text has 0 or more than 4095 bytes; [`Errno::Eperm`] where the map is written already, or the
-    /// caller does not hold SETUID (7), for a group map SETGID (6), in the namespace; [`Errno::Einval`] where the text is bad;
-    /// [`Errno::Eperm`] where the caller does not hold that capability in the parent and the text does more than map its own ID,
-    /// or an ID of the parent side is not in the parent's map.
+    /// Refuses with [`Errno::Eperm`] where that namespace is namespace 0, or the caller is neither in it nor in its
+    /// parent; [`Errno::Einval`] where the text has 0 or more than 4095 bytes; [`Errno::Eperm`] where the map is
+    /// written already, or the caller does not hold [`CAP_SETUID`](crate::CAP_SETUID), for a group map
+    /// [`CAP_SETGID`](crate::CAP_SETGID), in the namespace; [`Errno::Einval`] where the text is bad; [`Errno::Eperm`]
+    /// where the caller does not hold that capability in the parent and the text does more than map its own ID, or an
+    /// ID of the parent side is not in the parent's map.
     ///
     /// ```
     /// use oarhatchet::{Errno, Kind, Tables};
@@ -140,10 +144,12 @@ impl Tables {
         done(call(&mut self.words, caller, process, text))
     }
 
-    /// Writes the setgroups setting of the namespace that the process is in: `allow` or `deny`, with or without a newline.
+    /// Writes the setgroups setting of the namespace that the process is in: `allow` or `deny`, with or without a
+    /// newline.
     ///
-    /// Refuses with [`Errno::Eperm`] where the caller does not hold SYS_ADMIN (21) in the namespace; [`Errno::Einval`] where the
-    /// text is another; [`Errno::Eperm`] for `deny` after the group map is written and for `allow` after `deny`.
+    /// Refuses with [`Errno::Eperm`] where the caller does not hold [`CAP_SYS_ADMIN`](crate::CAP_SYS_ADMIN) in the
+    /// namespace; [`Errno::Einval`] where the text is another; [`Errno::Eperm`] for `deny` after the group map is
+    /// written and for `allow` after `deny`.
     ///
     /// ```
     /// use oarhatchet::{Errno, Tables};
@@ -158,9 +164,9 @@ impl Tables {
         done(ffi::write_setgroups(&mut self.words, caller, process, text))
     }
 
-    /// Reads the user or group map of the namespace that the process is in to the front of the buffer, and answers the text's
-    /// length: 33 bytes for each line, and 0 for a map that is not written. Parent starts are shown as the caller sees them. The
-    /// bytes after the text stay as they are.
+    /// Reads the user or group map of the namespace that the process is in to the front of the buffer, and answers
+    /// the text's length: 33 bytes for each line, and 0 for a map that is not written. Parent starts are shown as the
+    /// caller sees them. The bytes after the text stay as they are.
     ///
     /// Refuses with [`Errno::Erange`] where the buffer is shorter than the text.
     ///
@@ -187,8 +193,8 @@ impl Tables {
         length(call(&self.words, caller, process, buffer))
     }
 
-    /// Reads the setgroups setting of the namespace that the process is in, with a newline, to the front of the buffer, and
-    /// answers the text's length. The bytes after the text stay as they are.
+    /// Reads the setgroups setting of the namespace that the process is in, with a newline, to the front of the
+    /// buffer, and answers the text's length. The bytes after the text stay as they are.
     ///
     /// Refuses with [`Errno::Erange`] where the buffer is shorter than the text.
     ///
@@ -236,11 +242,13 @@ impl Tables {
         whole_text(|buffer| self.read_setgroups(caller, process, buffer))
     }
 
-    /// Sets the caller's real, effective and saved user or group IDs, as IDs of its namespace. [`NO_ID`](crate::NO_ID) leaves
-    /// one as it is. This is setresuid or setresgid. A caller whose user IDs leave ID 0 loses capabilities.
+    /// Sets the caller's real, effective and saved user or group IDs, as IDs of its namespace.
+    /// [`NO_ID`](crate::NO_ID) leaves one as it is. This is setresuid or setresgid. A caller whose user IDs leave ID
+    /// 0 loses capabilities.
     ///
-    /// Refuses with [`Errno::Einval`] where an ID is not mapped; [`Errno::Eperm`] where the caller does not hold SETUID (7), for
-    /// group IDs SETGID (6), in its namespace, and one of the new three is none of its present three.
+    /// Refuses with [`Errno::Einval`] where an ID is not mapped; [`Errno::Eperm`] where the caller does not hold
+    /// [`CAP_SETUID`](crate::CAP_SETUID), for group IDs [`CAP_SETGID`](crate::CAP_SETGID), in its namespace, and one
+    /// of the new three is none of its present three.
     ///
     /// ```
     /// use oarhatchet::{Errno, Kind, Tables, NO_ID};
@@ -262,8 +270,9 @@ impl Tables {
 
     /// Replaces the caller's supplementary groups by the list, in its order.
     ///
-    /// Refuses with [`Errno::Eperm`] where the caller does not hold SETGID (6) in its namespace, the group map there is not
-    /// written, or the setting there is `deny`; [`Errno::Einval`] where the list has over 16 IDs or one is not mapped.
+    /// Refuses with [`Errno::Eperm`] where the caller does not hold [`CAP_SETGID`](crate::CAP_SETGID) in its
+    /// namespace, the group map there is not written, or the setting there is `deny`; [`Errno::Einval`] where the
+    /// list has over 16 IDs or one is not mapped.
     ///
     /// ```
     /// use oarhatchet::{Errno, Tables};
@@ -280,13 +289,15 @@ impl Tables {
 
     /// Whether the caller holds the capability of this number in the namespace.
     ///
-    /// Refuses with [`Errno::Einval`] where the number is over 36.
+    /// Refuses with [`Errno::Einval`] where the number is over [`CAP_LAST_CAP`](crate::CAP_LAST_CAP).
     ///
     /// ```
-    /// let mut tables = oarhatchet::Tables::new();
+    /// use oarhatchet::{Tables, CAP_SYS_ADMIN};
+    ///
+    /// let mut tables = Tables::new();
     /// let child = tables.clone_process(1)?;
-    /// assert_eq!(tables.capable(1, child.namespace, 21), Ok(true));
-    /// assert_eq!(tables.capable(child.process, 0, 21), Ok(false));
+    /// assert_eq!(tables.capable(1, child.namespace, CAP_SYS_ADMIN), Ok(true));
+    /// assert_eq!(tables.capable(child.process, 0, CAP_SYS_ADMIN), Ok(false));
     /// # Ok::<(), oarhatchet::Errno>(())
     /// ```
     pub fn capable(&self, caller: u64, namespace: u64, number: u32) -> Result<bool, Errno> {
@@ -296,16 +307,17 @@ impl Tables {
 
     /// Sets the caller's permitted and effective capability sets, bit n for capability n.
     ///
-    /// Refuses with [`Errno::Eperm`] where the permitted set gains a capability, or the effective set has one that the permitted
-    /// set has not.
+    /// Refuses with [`Errno::Eperm`] where the permitted set gains a capability, or the effective set has one that
+    /// the permitted set has not.
     ///
     /// ```
-    /// use oarhatchet::{Errno, Tables};
+    /// use oarhatchet::{Errno, Tables, CAP_SETGID, CAP_SETUID};
     ///
     /// let mut tables = Tables::new();
-    /// tables.capset(1, 0x80, 0)?;
-    /// assert_eq!(tables.capable(1, 0, 7), Ok(false));
-    /// assert_eq!(tables.capset(1, 0xc0, 0x80), Err(Errno::Eperm));
+    /// let (groups, users) = (1 << CAP_SETGID, 1 << CAP_SETUID);
+    /// tables.capset(1, users, 0)?;
+    /// assert_eq!(tables.capable(1, 0, CAP_SETUID), Ok(false));
+    /// assert_eq!(tables.capset(1, groups | users, users), Err(Errno::Eperm));
     /// # Ok::<(), Errno>(())
     /// ```
     pub fn capset(&mut self, caller: u64, permitted: u64, effective: u64) -> Result<(), Errno> {
@@ -318,7 +330,7 @@ impl Tables {
     /// let mut tables = oarhatchet::Tables::new();
     /// let child = tables.clone_process(1)?;
     /// // No ID is mapped in the new namespace yet.
-    /// assert_eq!(tables.getids(child.process)?.groups, [65534; 3]);
+    /// assert_eq!(tables.getids(child.process)?.groups, [oarhatchet::OVERFLOW_ID; 3]);
     /// # Ok::<(), oarhatchet::Errno>(())
     /// ```
     pub fn getids(&self, caller: u64) -> Result<OwnIds, Errno> {

@@ -1,7 +1,8 @@
-//! Translation of IDs and of lists through 32 levels of random maps, against the reference program. The maps of a level cut the
-//! IDs into up to five pieces and put them into another order, so that their lines run across those above at random places.
+//! Translation of IDs and of lists through 32 levels of random maps, against the reference program. The maps of a
+//! level cut the IDs into up to five pieces and put them into another order, so that their lines run across those
+//! above at random places.
 
-use oarhatchet::Tables;
+use oarhatchet::{Tables, NO_ID};
 use reference::random::Random;
 use reference::{Answer, Call, Direction, Kind};
 
@@ -82,7 +83,7 @@ impl Both {
         };
         assert_eq!(seen, groups);
         if let Some(place) = (count > 0).then(|| random.index(count as usize)) {
-            groups[place] = [IDS as u32, u32::MAX][random.index(2)];
+            groups[place] = [IDS as u32, NO_ID][random.index(2)];
             let refused = self.come_to(&Call::Setgroups { caller, groups });
             assert!(matches!(refused, Outcome::Refused { number: 22, .. }));
         }

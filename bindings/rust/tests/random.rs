@@ -1,11 +1,12 @@
-//! Random lists of calls: every answer, and afterwards every table as the public reads show it, is the reference program's.
+//! Random lists of calls: every answer, and afterwards every table as the public reads show it, is the reference
+//! program's.
 
 mod common;
 
 use std::thread;
 
 use common::{outcome, outcome_on_reference, Outcome};
-use oarhatchet::Tables;
+use oarhatchet::{Tables, CAP_LAST_CAP, CAP_SETGID, CAP_SETUID, CAP_SYS_ADMIN, NO_ID, OVERFLOW_ID};
 use reference::generate::Generator;
 use reference::random::Random;
 use reference::script::{parse, Item};
@@ -16,9 +17,12 @@ const CALLS: u64 = if cfg!(debug_assertions) { 60_000 } else { 5_200_000 };
 const THREADS: u64 = 4;
 const LIST_LENGTHS: [u64; 8] = [30, 60, 100, 200, 300, 400, 600, 1000];
 const KINDS: [Kind; 2] = [Kind::User, Kind::Group];
+/// The buffer of a read: five lines of 33 bytes, which is the longest text of a map, and one byte more.
+const BUFFER: usize = 5 * 33 + 1;
 /// SETGID, SETUID and SYS_ADMIN, the ends, and one that is refused.
-const CAPABILITIES: [u32; 6] = [0, 6, 7, 21, 36, 37];
-const EDGES: [u32; 5] = [0, 65_534, 65_536, u32::MAX - 1, u32::MAX];
+const CAPABILITIES: [u32; 6] =
+    [0, CAP_SETGID, CAP_SETUID, CAP_SYS_ADMIN, CAP_LAST_CAP, CAP_LAST_CAP + 1];
+const EDGES: [u32; 5] = [0, OVERFLOW_ID, 65_536, NO_ID - 1, NO_ID];
 
 /// Both tables, and the calls that they have answered alike.
 struct Pair {
@@ -52,7 +56,7 @@ impl Pair {
             let other = 1 + (caller * 7) % top;
             for (caller, process) in [(1, caller), (caller, caller), (caller, other)] {
                 for kind in KINDS {
-                    let buffer = vec![b'.'; 166];
+                    let buffer = vec![b'.'; BUFFER];
                     self.answer(&Call::ReadMap { kind, caller, process, buffer });
                 }
             }

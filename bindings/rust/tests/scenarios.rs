@@ -1,11 +1,20 @@
 //! The scenarios of document 01 (its bench runs), in its order, and what the types of the bindings promise.
 
+use std::error::Error;
+use std::io;
+
 use oarhatchet::Errno::{Eagain, Einval, Enospc, Eperm, Erange, Esrch, Eusers};
 use oarhatchet::{Child, Errno, Kind, Tables, Way};
+use oarhatchet::{CAP_LAST_CAP, CAP_SETGID, CAP_SETUID, CAP_SYS_ADMIN, NO_ID, OVERFLOW_ID};
 
-const SETGID: u32 = 6;
-const SETUID: u32 = 7;
-const SYS_ADMIN: u32 = 21;
+/// The bytes of a line of a map that is read.
+const LINE: usize = 33;
+/// How many namespaces and processes there may be, and how many levels.
+const NAMESPACES: u64 = 64;
+const PROCESSES: u64 = 128;
+const LEVELS: u64 = 32;
+/// The most supplementary groups of a process.
+const MAX_GROUPS: usize = 16;
 
 /// Process 2 is a fork of 1, set to group 1000 and then user 1000, and is in namespace 1, which it made.
 fn member() -> Tables {
@@ -29,9 +38,9 @@ fn a_member_maps_itself_once() {
     let text = "         0       1000          1\n";
     assert_eq!(tables.map_text(Kind::User, 2, 2).as_deref(), Ok(text));
     let mut buffer = [b'.'; 40];
-    assert_eq!(tables.read_map(Kind::User, 2, 2, &mut buffer), Ok(33));
-    assert_eq!(&buffer[..33], text.as_bytes());
-    assert_eq!(&buffer[33..], b".......");
+    assert_eq!(tables.read_map(Kind::User, 2, 2, &mut buffer), Ok(LINE));
+    assert_eq!(&buffer[..LINE], text.as_bytes());
+    assert_eq!(&buffer[LINE..], b".......");
     assert_eq!(tables.write_map(Kind::User, 2, 2, b"0 1000 1"), Err(Eperm));
 }
 
@@ -87,17 +96,17 @@ fn an_unmapped_process_makes_no_namespace() {
 #[test]
 fn the_owner_in_the_parent_holds_capabilities_and_joins() {
     let mut tables = member();
-    assert_eq!(tables.capable(1, 1, SYS_ADMIN), Ok(true));
-    assert_eq!(tables.capable(2, 0, SYS_ADMIN), Ok(false));
+    assert_eq!(tables.capable(1, 1, CAP_SYS_ADMIN), Ok(true));
+    assert_eq!(tables.capable(2, 0, CAP_SYS_ADMIN), Ok(false));
     // Processes 3 and 4 are in namespace 0 with empty sets, 3 with the owner's user ID and 4 with another.
     for (process, user) in [(3, 1000), (4, 1001)] {
         assert_eq!(tables.fork(1), Ok(process));
         assert_eq!(tables.set_ids(Kind::User, process, [user; 3]), Ok(()));
         assert_eq!(tables.capset(process, 0, 1), Err(Eperm));
-        assert_eq!(tables.capable(process, 0, SYS_ADMIN), Ok(false));
+        assert_eq!(tables.capable(process, 0, CAP_SYS_ADMIN), Ok(false));
     }
-    assert_eq!(tables.capable(3, 1, SYS_ADMIN), Ok(true));
-    assert_eq!(tables.capable(4, 1, SYS_ADMIN), Ok(false));
+    assert_eq!(tables.capable(3, 1, CAP_SYS_ADMIN), Ok(true));
+    assert_eq!(tables.capable(4, 1, CAP_SYS_ADMIN), Ok(false));
     assert_eq!(tables.setns(3, 1), Ok(()));
     assert_eq!(tables.setns(3, 0), Err(Eperm));
     assert_eq!(tables.setns(3, 1), Err(Einval));
@@ -127,10 +136,11 @@ fn descend(levels: u64) -> Tables {
 
 #[test]
 fn levels_reach_32() {
-    assert_eq!(descend(31).unshare(32), Ok(32));
-    assert_eq!(descend(31).clone_process(32), Ok(Child { process: 33, namespace: 32 }));
-    assert_eq!(descend(32).unshare(33), Err(Eusers));
-    assert_eq!(descend(32).clone_process(33), Err(Eusers));
+    let last = Child { process: LEVELS + 1, namespace: LEVELS };
+    assert_eq!(descend(LEVELS - 1).unshare(LEVELS), Ok(LEVELS));
+    assert_eq!(descend(LEVELS - 1).clone_process(LEVELS), Ok(last));
+    assert_eq!(descend(LEVELS).unshare(LEVELS + 1), Err(Eusers));
+    assert_eq!(descend(LEVELS).clone_process(LEVELS + 1), Err(Eusers));
 }
 
 /// Makes a child of the process in a namespace of its own, with these maps and as the root of it.
@@ -145,7 +155,8 @@ fn nested(tables: &mut Tables, caller: u64, users: &str, groups: &str) -> u64 {
     child
 }
 
-/// The second of the user lines at level 2 runs across both lines of level 1; each line of the groups lies whole in one.
+/// The second of the user lines at level 2 runs across both lines of level 1; each line of the groups lies whole in
+/// one.
 #[test]
 fn translation_goes_through_levels() {
     let mut tables = Tables::new();
@@ -188,13 +199,13 @@ fn translation_goes_through_levels() {
     }
 }
 
-/// At each level four of five lines run across two lines of the map above, so that a map has four pieces more than the one above
-/// it, and from level 9 on more than a lifted map has room for.
+/// At each level four of five lines run across two lines of the map above, so that a map has four pieces more than
+/// the one above it, and from level 9 on more than a lifted map has room for.
 #[test]
 fn translation_goes_through_lines_across() {
     let mut tables = Tables::new();
     let mut caller = 1;
-    for level in 1..=32u32 {
+    for level in 1..=LEVELS as u32 {
         let start = |line: u32| if line == 0 { 0 } else { line * 1000 + (level - 1) * 15 };
         let end = |line: u32| if line == 4 { 5000 } else { start(line + 1) };
         let parent = |line| if level == 1 { 100_000 + line * 2000 } else { start(line) };
@@ -219,11 +230,11 @@ fn translation_goes_through_lines_across() {
 #[test]
 fn full_tables_refuse() {
     let mut tables = Tables::new();
-    for namespace in 1..64 {
+    for namespace in 1..NAMESPACES {
         assert_eq!(tables.clone_process(1), Ok(Child { process: namespace + 1, namespace }));
     }
     assert_eq!(tables.clone_process(1), Err(Enospc));
-    for child in 65..=128 {
+    for child in NAMESPACES + 1..=PROCESSES {
         assert_eq!(tables.fork(1), Ok(child));
     }
     assert_eq!(tables.fork(1), Err(Eagain));
@@ -237,20 +248,21 @@ fn own_ids_show_what_is_mapped() {
     assert_eq!(tables.write_map(Kind::User, 1, 2, b"0 0 1"), Ok(()));
     assert_eq!(tables.write_map(Kind::Group, 1, 2, b"0 100000 10"), Ok(()));
     let ids = tables.getids(2).expect("process 2 exists");
-    assert_eq!((ids.users, ids.groups), ([0; 3], [65534; 3]));
-    assert_eq!(ids.supplementary, [65534, 3]);
-    assert_eq!(tables.setgroups(2, &[9; 16]), Ok(()));
-    assert_eq!(tables.getids(2).expect("process 2 exists").supplementary, [9; 16]);
+    assert_eq!((ids.users, ids.groups), ([0; 3], [OVERFLOW_ID; 3]));
+    assert_eq!(ids.supplementary, [OVERFLOW_ID, 3]);
+    assert_eq!(tables.setgroups(2, &[9; MAX_GROUPS]), Ok(()));
+    assert_eq!(tables.getids(2).expect("process 2 exists").supplementary, [9; MAX_GROUPS]);
+    assert_eq!(tables.setgroups(2, &[9; MAX_GROUPS + 1]), Err(Einval));
 }
 
 #[test]
 fn drops_never_add() {
     let mut tables = Tables::new();
-    assert_eq!(tables.capset(1, 1 << SETUID, 1 << SETUID), Ok(()));
-    assert_eq!(tables.capset(1, 1 << SETGID, 0), Err(Eperm));
-    assert_eq!(tables.capable(1, 0, SETUID), Ok(true));
-    assert_eq!(tables.capable(1, 0, SETGID), Ok(false));
-    assert_eq!(tables.capable(1, 0, 37), Err(Einval));
+    assert_eq!(tables.capset(1, 1 << CAP_SETUID, 1 << CAP_SETUID), Ok(()));
+    assert_eq!(tables.capset(1, 1 << CAP_SETGID, 0), Err(Eperm));
+    assert_eq!(tables.capable(1, 0, CAP_SETUID), Ok(true));
+    assert_eq!(tables.capable(1, 0, CAP_SETGID), Ok(false));
+    assert_eq!(tables.capable(1, 0, CAP_LAST_CAP + 1), Err(Einval));
 }
 
 #[test]
@@ -285,15 +297,44 @@ fn tables_go_to_other_threads() {
     let tables = shared(member());
     std::thread::scope(|scope| {
         for _ in 0..2 {
-            scope.spawn(|| assert_eq!(tables.capable(1, 1, SYS_ADMIN), Ok(true)));
+            scope.spawn(|| assert_eq!(tables.capable(1, 1, CAP_SYS_ADMIN), Ok(true)));
         }
     });
 }
 
 #[test]
 fn every_refusal_has_its_number() {
-    let numbers = Errno::ALL.map(Errno::number);
+    let numbers: Vec<u32> = Errno::ALL.iter().map(|errno| errno.number()).collect();
     assert_eq!(numbers, [1, 3, 11, 22, 28, 34, 87]);
-    let error: Box<dyn std::error::Error> = Box::new(Eusers);
+    let error: Box<dyn Error> = Box::new(Eusers);
     assert_eq!(error.to_string(), "EUSERS: level 33 asked for");
+}
+
+#[test]
+fn a_refusal_is_an_error_of_the_system() {
+    fn joined(tables: &mut Tables, caller: u64) -> io::Result<()> {
+        tables.setns(caller, 0)?;
+        Ok(())
+    }
+    let mut tables = member();
+    let refusals = [(1, 22, io::ErrorKind::InvalidInput), (2, 1, io::ErrorKind::PermissionDenied)];
+    for (caller, number, kind) in refusals {
+        let error = joined(&mut tables, caller).expect_err("the call is refused");
+        assert_eq!((error.raw_os_error(), error.kind()), (Some(number), kind));
+    }
+    for errno in Errno::ALL {
+        let error = io::Error::from(*errno);
+        assert_eq!(error.raw_os_error().map(i64::from), Some(i64::from(errno.number())));
+    }
+}
+
+#[test]
+fn no_id_is_never_mapped() {
+    let tables = descend(1);
+    for kind in [Kind::User, Kind::Group] {
+        for way in [Way::Out, Way::Back] {
+            assert_eq!(tables.translate(kind, way, 1, 1, NO_ID), Ok(None));
+            assert_eq!(tables.translate(kind, way, 1, 1, NO_ID - 1), Ok(Some(NO_ID - 1)));
+        }
+    }
 }

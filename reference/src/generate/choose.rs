@@ -1,13 +1,24 @@
 //! The choice of processes, namespaces, IDs and capability sets for generated calls.
 
 use super::Generator;
-use crate::capability::{SETGID, SETUID, SYS_ADMIN};
+use crate::calls::OVERFLOW_ID;
+use crate::capability::{CapabilitySet, LAST, SETGID, SETUID, SYS_ADMIN};
 use crate::id_map::{Kind, NO_ID};
 use crate::process::Process;
+use crate::tables::{MAX_NAMESPACES, MAX_PROCESSES};
 
 /// Names that no process and no namespace has, some of them equal to small ones in fewer bits.
-const DEAD_NAMES: [u64; 9] =
-    [129, 64, 256, 257, 1 << 32, (1 << 32) + 1, 1 << 63, (1 << 63) + 1, u64::MAX];
+const DEAD_NAMES: [u64; 9] = [
+    MAX_PROCESSES + 1,
+    MAX_NAMESPACES,
+    256,
+    257,
+    1 << 32,
+    (1 << 32) + 1,
+    1 << 63,
+    (1 << 63) + 1,
+    u64::MAX,
+];
 
 impl Generator {
     /// Whether the next argument is bad on purpose.
@@ -160,7 +171,7 @@ impl Generator {
     }
 
     pub(super) fn small_id(&mut self) -> u32 {
-        self.random.pick(&[0, 0, 1, 5, 10, 1000, 1001, 1002, 65534])
+        self.random.pick(&[0, 0, 1, 5, 10, 1000, 1001, 1002, OVERFLOW_ID])
     }
 
     pub(super) fn any_id(&mut self) -> u32 {
@@ -174,7 +185,7 @@ impl Generator {
 
     pub(super) fn capability_number(&mut self) -> u32 {
         if self.go_bad() || self.random.chance(3) {
-            return self.random.pick(&[37, 38, 64, 70, 71, 85, 263, 1 << 31, u32::MAX]);
+            return self.random.pick(&[LAST + 1, LAST + 2, 64, 70, 71, 85, 263, 1 << 31, u32::MAX]);
         }
         match self.random.below(2) {
             0 => self.random.pick(&[SETGID, SETUID, SYS_ADMIN]),
@@ -196,10 +207,10 @@ impl Generator {
     /// A set that is likely no part of another.
     pub(super) fn more_than(&mut self, set: u64) -> u64 {
         match self.random.below(5) {
-            0 => set | 1 << self.random.below(64),
-            1 => set | 1 << self.random.below(37),
-            2 => 0x1f_ffff_ffff,
-            3 => set | 1 << 37,
+            0 => set | 1 << self.random.below(u64::from(u64::BITS)),
+            1 => set | 1 << self.random.below(u64::from(LAST) + 1),
+            2 => CapabilitySet::FULL.0,
+            3 => set | 1 << (LAST + 1),
             _ => self.random.pick(&[u64::MAX, 1 << 63, 0x3f_ffff_ffff, 0x20_0000_0000]),
         }
     }

@@ -2,12 +2,13 @@
 
 use super::Generator;
 use crate::calls::capability_over;
-use crate::id_map::{Kind, Line, MAX_LINES, MAX_TEXT};
+use crate::id_map::{Kind, Line, MAX_LINES, MAX_TEXT, NO_ID};
 
 /// The three numbers of a line, which need not make a good one.
 type Numbers = [u64; 3];
 
-const TOP: u64 = 4_294_967_295;
+/// The most that a start and a count may add up to.
+const TOP: u64 = NO_ID as u64;
 /// Numbers at the bounds of what a line may hold.
 const BOUNDS: [&[u8]; 10] = [
     b"4294967293",
@@ -216,7 +217,7 @@ impl Generator {
             0 => vec![[inside, parent, 10], [inside + 5, parent + 10, 10]],
             1 => vec![[inside, parent, 10], [inside + 20, parent + 9, 5]],
             2 => vec![line, line],
-            3 => (0..6).map(|i| [i * 2, parent + i, 1]).collect(),
+            3 => (0..=MAX_LINES as u64).map(|i| [i * 2, parent + i, 1]).collect(),
             4 => vec![[inside, parent, 0]],
             5 => vec![[1 + self.random.below(TOP), parent, TOP]],
             6 => vec![[inside, TOP - self.random.below(2), 1 + self.random.below(2)]],
