@@ -6,6 +6,15 @@ pub by-test : {P : Type 0} (t : Bool) → (t ≡ true → P) → (t ≡ false �
 by-test true f g = f refl
 by-test false f g = g refl
 
+-- what the code knows of a test x where it goes by `!x`
+pub not-taken : (x : Bool) → not x ≡ true → x ≡ false
+not-taken true e = absurd (true≢false (sym e))
+not-taken false e = refl
+
+pub not-left : (x : Bool) → not x ≡ false → x ≡ true
+not-left true e = refl
+not-left false e = absurd (true≢false e)
+
 -- what holds of both holds of the one that a test picks
 pub cond-elim : {A : Type 0} (P : A → Type 0) (t : Bool) {a b : A} → P a → P b → P (cond t a b)
 cond-elim P true p q = p

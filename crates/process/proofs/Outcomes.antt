@@ -4,28 +4,33 @@ use mathlib.Core.Path.{_≡_, refl, sym, _∙_}
 use mathlib.Core.Bool.{Bool, true, false}
 use mathlib.Core.List.{List}
 use native.Mathlib.Omega.{arith}
-use mir.Val.{Fits}
-use mir.Syntax.{w64}
 use borrow.Author.Needs.{needs}
+use Rattle.prelude.proofs.Tests.{not-taken, not-left}
 use borrow.Author.Tests.{le-leb, lt-leb, eq-eqb, ne-eqb}
-use Rattle.capability.specs.Sets.{fullSet}
+use Rattle.capability.specs.Sets.{capSysAdmin, fullSet}
 use Rattle.idmap.specs.declared.Translated.{Translated}
 use Rattle.records.specs.declared.Kind.the-variants.{User, Group}
 use Rattle.records.specs.declared.Process.{Process}
 use Rattle.records.specs.declared.IdMap.{IdMap}
 use Rattle.records.specs.declared.Namespace.{Namespace}
 use Rattle.records.specs.Records.{freeMap}
+use Rattle.tables.specs.declared.answer.Errno.{Errno}
 use Rattle.tables.specs.declared.answer.Errno.the-variants.{EPERM, ESRCH, EAGAIN, EINVAL, ENOSPC, EUSERS}
 use Rattle.tables.specs.declared.answer.Answer.the-variants.{Refused, Done, Child, ChildIn, NewNamespace}
 use Rattle.tables.specs.declared.find.Found.{Found}
 use Rattle.tables.specs.declared.find.Found.the-variants.{At, Nothing}
-use Rattle.tables.specs.Tables.{State, tablesOf, processAt, namespaceAt, putProcess, putNamespace, clearLiftedMaps}
-use Rattle.tables.specs.Find.{processNamed, namespaceNamed, freeProcessPlace, freeNamespacePlace}
+use Rattle.tables.specs.declared.find.Free.{Free}
+use Rattle.tables.specs.declared.find.Free.the-variants.{Place, Full}
+use Rattle.tables.specs.Tables.{State, maxLevel, tablesOf, processAt, namespaceAt, putProcess, putNamespace, clearLiftedMaps}
+use Rattle.tables.specs.Find.{processNumber, namespaceNumber, callerNamed, namespaceNamed, freeProcessPlace, freeNamespacePlace, numbered}
 use Rattle.tables.specs.Reply.{Promise}
-use Rattle.tables.proofs.Promises.{refuses, answers, free-process-below}
+use Rattle.tables.proofs.Promises.{refuses, answers, none-free, free-at}
 use Rattle.hierarchy.specs.Walks.{Translation, capableIn}
 use Rattle.hierarchy.specs.Lifted.{fromKernel, byLiftedMaps}
-use Rattle.process.specs.Calls.{sysAdmin, forkOf, isMapped, knowsItself, below, withNamespace, entered, cloneOf, unshareOf, setnsOf}
+use Rattle.process.specs.Calls.{forkOf, isMapped, knowsItself, below, withNamespace, entered, cloneOf, unshareOf, setnsOf}
+use Rattle.process.specs.declared.Making.{Making}
+use Rattle.process.specs.declared.Making.the-variants.{Refuses, By}
+use Rattle.process.specs.Making.{Makes, Known}
 
 -- ---- knows_itself
 module _ (s : State) (p : Process) (u : Translated) (m : Bool) (f : u ≡ fromKernel s User (p .namespace) (p .users .effective)) (e : m ≡ isMapped u) where
@@ -49,87 +54,85 @@ child-is p own m e = λ i. record { live = true; parent = p .namespace; level = 
 pub made-is : (s₀ s₁ s₂ : State) (n : ℕ) (p : Process) (own new : Namespace) → new ≡ below p own → s₁ ≡ putNamespace s₀ n new → s₂ ≡ clearLiftedMaps s₁ n → s₂ ≡ withNamespace s₀ n p own
 made-is s₀ s₁ s₂ n p own new e f g = g ∙ rw (f, e)
 
--- ---- a number that is answered fits
-pub number-fits : (l : List ℕ) (r : Found) (i : ℕ) → r ≡ freeProcessPlace (tablesOf l) → r ≡ At i → Fits w64 (i + 1)
-number-fits l r i e q = let h = free-process-below l r i e q in omega arith
-
 -- ---- fork
-module _ (l : List ℕ) (c : ℕ) (r : Found) (f : r ≡ processNamed (tablesOf l) c) where
+module _ (l : List ℕ) (c : ℕ) (r : Found) (f : r ≡ callerNamed (tablesOf l) c) where
   pub fork-no-caller : r ≡ Nothing → Promise (Refused ESRCH) l l (forkOf (tablesOf l) c)
   unfolding forkOf
   fork-no-caller n = refuses ESRCH l (forkOf (tablesOf l) c) (sym (rw (sym f ∙ n)))
 
-  module _ (i : ℕ) (v : r ≡ At i) (q : Found) (g : q ≡ freeProcessPlace (tablesOf l)) where
-    pub fork-full : q ≡ Nothing → Promise (Refused EAGAIN) l l (forkOf (tablesOf l) c)
+  module _ (i : ℕ) (v : r ≡ At i) (q : Free) (g : q ≡ numbered processNumber (freeProcessPlace (tablesOf l))) where
+    pub fork-full : q ≡ Full → Promise (Refused EAGAIN) l l (forkOf (tablesOf l) c)
     unfolding forkOf
-    fork-full n = refuses EAGAIN l (forkOf (tablesOf l) c) (sym (rw (sym f ∙ v, sym g ∙ n)))
+    fork-full n = refuses EAGAIN l (forkOf (tablesOf l) c) (sym (rw (sym f ∙ v, none-free processNumber (freeProcessPlace (tablesOf l)) (sym n ∙ g))))
 
-    pub fork-done : (j : ℕ) (p : Process) (l′ : List ℕ) → q ≡ At j → p ≡ processAt (tablesOf l) i → tablesOf l′ ≡ putProcess (tablesOf l) j p → Promise (Child (j + 1)) l l′ (forkOf (tablesOf l) c)
+    pub fork-done : (j n : ℕ) (p : Process) (l′ : List ℕ) → q ≡ Place j n → p ≡ processAt (tablesOf l) i → tablesOf l′ ≡ putProcess (tablesOf l) j p → Promise (Child n) l l′ (forkOf (tablesOf l) c)
     unfolding forkOf
-    fork-done j p l′ w e k = answers (Child (j + 1)) l l′ (forkOf (tablesOf l) c) refl (rw (sym f ∙ v, sym g ∙ w, k, e))
+    fork-done j n p l′ w e k =
+        let free = free-at processNumber (freeProcessPlace (tablesOf l)) j n (sym w ∙ g) in
+        answers (Child n) l l′ (forkOf (tablesOf l) c) refl (rw (sym f ∙ v, free .0, free .1, k, e))
 
--- ---- clone and unshare, by any translation
-module _ (by : Translation) (l : List ℕ) (c : ℕ) (r : Found) (f : r ≡ processNamed (tablesOf l) c) where
-  pub clone-no-caller : r ≡ Nothing → Promise (Refused ESRCH) l l (cloneOf by (tablesOf l) c)
+-- ---- clone and unshare alike, by any translation
+module _ (by : Translation) (s : State) (c : ℕ) (r : Found) (f : r ≡ callerNamed s c) where
+  pub maker-no-caller : r ≡ Nothing → Makes by s c (Refuses ESRCH)
+  maker-no-caller n = λ next. rw (sym f ∙ n)
+
+  module _ (i : ℕ) (v : r ≡ At i) (p : Process) (e : p ≡ processAt s i) (own : Namespace) (o : own ≡ namespaceAt s (p .namespace)) where
+    pub maker-deep : maxLevel ≤ own .level → Makes by s c (Refuses EUSERS)
+    maker-deep h = λ next. rw (sym f ∙ v, ← e, ← o, le-leb maxLevel (own .level) h)
+
+    module _ (h : own .level < maxLevel) (k : Bool) (m : k ≡ knowsItself by p) where
+      pub maker-unmapped : k ≡ false → Makes by s c (Refuses EPERM)
+      maker-unmapped t = λ next. rw (sym f ∙ v, ← e, ← o, lt-leb maxLevel (own .level) h, ← m, t)
+
+      module _ (t : k ≡ true) (a : Free) (b : a ≡ numbered namespaceNumber (freeNamespacePlace s)) where
+        pub maker-no-space : a ≡ Full → Makes by s c (Refuses ENOSPC)
+        maker-no-space z = λ next. rw (sym f ∙ v, ← e, ← o, lt-leb maxLevel (own .level) h, ← m, t, none-free namespaceNumber (freeNamespacePlace s) (sym z ∙ b))
+
+        pub maker-found : (n d : ℕ) → a ≡ Place n d → Makes by s c (By i n d) × Known s (By i n d)
+        maker-found n d w =
+            let free = free-at namespaceNumber (freeNamespacePlace s) n d (sym w ∙ b) in
+            (λ next. rw (sym f ∙ v, ← e, ← o, lt-leb maxLevel (own .level) h, ← m, t, free .0), (rw (← e, ← o) h, free .1))
+
+pub nothing-known : (s : State) (e : Errno) → Known s (Refuses e)
+nothing-known s e = tt
+
+-- ---- clone and unshare, of what they have in common
+module _ (by : Translation) (l : List ℕ) (c : ℕ) (r : Making) (f : Makes by (tablesOf l) c r) where
+  pub clone-refused : (e : Errno) → r ≡ Refuses e → Promise (Refused e) l l (cloneOf by (tablesOf l) c)
   unfolding cloneOf
-  clone-no-caller n = refuses ESRCH l (cloneOf by (tablesOf l) c) (sym (rw (sym f ∙ n)))
+  clone-refused e q = refuses e l (cloneOf by (tablesOf l) c) (sym (f _ ∙ rw q))
 
-  pub unshare-no-caller : r ≡ Nothing → Promise (Refused ESRCH) l l (unshareOf by (tablesOf l) c)
+  pub unshare-refused : (e : Errno) → r ≡ Refuses e → Promise (Refused e) l l (unshareOf by (tablesOf l) c)
   unfolding unshareOf
-  unshare-no-caller n = refuses ESRCH l (unshareOf by (tablesOf l) c) (sym (rw (sym f ∙ n)))
+  unshare-refused e q = refuses e l (unshareOf by (tablesOf l) c) (sym (f _ ∙ rw q))
 
-  module _ (i : ℕ) (v : r ≡ At i) (p : Process) (e : p ≡ processAt (tablesOf l) i) (own : Namespace) (o : own ≡ namespaceAt (tablesOf l) (p .namespace)) where
-    pub clone-deep : 32 ≤ own .level → Promise (Refused EUSERS) l l (cloneOf by (tablesOf l) c)
+  module _ (i n d : ℕ) (v : r ≡ By i n d) where
+    pub clone-no-place : (q : Free) → q ≡ numbered processNumber (freeProcessPlace (tablesOf l)) → q ≡ Full → Promise (Refused EAGAIN) l l (cloneOf by (tablesOf l) c)
     unfolding cloneOf
-    clone-deep h = refuses EUSERS l (cloneOf by (tablesOf l) c) (sym (rw (sym f ∙ v, ← e, ← o, le-leb 32 (own .level) h)))
+    clone-no-place q g z = refuses EAGAIN l (cloneOf by (tablesOf l) c) (sym (f _ ∙ rw (v, none-free processNumber (freeProcessPlace (tablesOf l)) (sym z ∙ g))))
 
-    pub unshare-deep : 32 ≤ own .level → Promise (Refused EUSERS) l l (unshareOf by (tablesOf l) c)
-    unfolding unshareOf
-    unshare-deep h = refuses EUSERS l (unshareOf by (tablesOf l) c) (sym (rw (sym f ∙ v, ← e, ← o, le-leb 32 (own .level) h)))
+    module _ (m : Known (tablesOf l) r) (p : Process) (e : p ≡ processAt (tablesOf l) i) (own : Namespace) (o : own ≡ namespaceAt (tablesOf l) (p .namespace)) where
+      pub level-below : own .level < maxLevel
+      level-below = rw (o, e) ((rw v at m) .0)
 
-    module _ (h : own .level < 32) (k : Bool) (m : k ≡ knowsItself by p) where
-      pub clone-unmapped : k ≡ false → Promise (Refused EPERM) l l (cloneOf by (tablesOf l) c)
-      unfolding cloneOf
-      clone-unmapped t = refuses EPERM l (cloneOf by (tablesOf l) c) (sym (rw (sym f ∙ v, ← e, ← o, lt-leb 32 (own .level) h, ← m, t)))
-
-      pub unshare-unmapped : k ≡ false → Promise (Refused EPERM) l l (unshareOf by (tablesOf l) c)
-      unfolding unshareOf
-      unshare-unmapped t = refuses EPERM l (unshareOf by (tablesOf l) c) (sym (rw (sym f ∙ v, ← e, ← o, lt-leb 32 (own .level) h, ← m, t)))
-
-      module _ (t : k ≡ true) (a : Found) (b : a ≡ freeNamespacePlace (tablesOf l)) where
-        pub clone-no-space : a ≡ Nothing → Promise (Refused ENOSPC) l l (cloneOf by (tablesOf l) c)
+      module _ (l₁ : List ℕ) (y : tablesOf l₁ ≡ withNamespace (tablesOf l) n p own) (in′ : Process) (z : in′ ≡ entered p n) (l₂ : List ℕ) where
+        pub clone-done : (q : Free) (j x : ℕ) → q ≡ numbered processNumber (freeProcessPlace (tablesOf l)) → q ≡ Place j x → tablesOf l₂ ≡ putProcess (tablesOf l₁) j in′ → Promise (ChildIn x d) l l₂ (cloneOf by (tablesOf l) c)
         unfolding cloneOf
-        clone-no-space z = refuses ENOSPC l (cloneOf by (tablesOf l) c) (sym (rw (sym f ∙ v, ← e, ← o, lt-leb 32 (own .level) h, ← m, t, sym b ∙ z)))
+        clone-done q j x g u k =
+            let free = free-at processNumber (freeProcessPlace (tablesOf l)) j x (sym u ∙ g) in
+            answers (ChildIn x d) l l₂ (cloneOf by (tablesOf l) c) refl (sym (f _ ∙ rw (v, free .0, (rw v at m) .1, free .1, k, y, z, o, e)))
 
-        pub unshare-no-space : a ≡ Nothing → Promise (Refused ENOSPC) l l (unshareOf by (tablesOf l) c)
+        pub unshare-done : tablesOf l₂ ≡ putProcess (tablesOf l₁) i in′ → Promise (NewNamespace d) l l₂ (unshareOf by (tablesOf l) c)
         unfolding unshareOf
-        unshare-no-space z = refuses ENOSPC l (unshareOf by (tablesOf l) c) (sym (rw (sym f ∙ v, ← e, ← o, lt-leb 32 (own .level) h, ← m, t, sym b ∙ z)))
-
-        module _ (n : ℕ) (w : a ≡ At n) where
-          pub clone-no-place : (q : Found) → q ≡ freeProcessPlace (tablesOf l) → q ≡ Nothing → Promise (Refused EAGAIN) l l (cloneOf by (tablesOf l) c)
-          unfolding cloneOf
-          clone-no-place q g z = refuses EAGAIN l (cloneOf by (tablesOf l) c) (sym (rw (sym f ∙ v, ← e, ← o, lt-leb 32 (own .level) h, ← m, t, sym b ∙ w, sym g ∙ z)))
-
-          module _ (l₁ : List ℕ) (y : tablesOf l₁ ≡ withNamespace (tablesOf l) n p own) (in′ : Process) (z : in′ ≡ entered p n) (l₂ : List ℕ) where
-            pub clone-done : (q : Found) (j : ℕ) → q ≡ freeProcessPlace (tablesOf l) → q ≡ At j → tablesOf l₂ ≡ putProcess (tablesOf l₁) j in′ → Promise (ChildIn (j + 1) n) l l₂ (cloneOf by (tablesOf l) c)
-            unfolding cloneOf
-            clone-done q j g u k =
-                answers (ChildIn (j + 1) n) l l₂ (cloneOf by (tablesOf l) c) refl
-                (rw (sym f ∙ v, ← e, ← o, lt-leb 32 (own .level) h, ← m, t, sym b ∙ w, sym g ∙ u, k, y, z))
-
-            pub unshare-done : tablesOf l₂ ≡ putProcess (tablesOf l₁) i in′ → Promise (NewNamespace n) l l₂ (unshareOf by (tablesOf l) c)
-            unfolding unshareOf
-            unshare-done k =
-                answers (NewNamespace n) l l₂ (unshareOf by (tablesOf l) c) refl
-                (rw (sym f ∙ v, ← e, ← o, lt-leb 32 (own .level) h, ← m, t, sym b ∙ w, k, y, z))
+        unshare-done k = answers (NewNamespace d) l l₂ (unshareOf by (tablesOf l) c) refl (sym (f _ ∙ rw (v, (rw v at m) .1, k, y, z, o, e)))
 
 -- ---- setns
-module _ (l : List ℕ) (c name : ℕ) (r : Found) (f : r ≡ processNamed (tablesOf l) c) where
+module _ (l : List ℕ) (c name : ℕ) (r : Found) (f : r ≡ callerNamed (tablesOf l) c) where
   pub setns-no-caller : r ≡ Nothing → Promise (Refused ESRCH) l l (setnsOf (tablesOf l) c name)
   unfolding setnsOf
   setns-no-caller n = refuses ESRCH l (setnsOf (tablesOf l) c name) (sym (rw (sym f ∙ n)))
 
-  module _ (i : ℕ) (v : r ≡ At i) (q : Found) (g : q ≡ namespaceNamed (tablesOf l) name) where
+  module _ (i : ℕ) (v : r ≡ At i) (q : Found) (g : q ≡ namespaceNamed (tablesOf l) i name) where
     pub setns-no-target : q ≡ Nothing → Promise (Refused ESRCH) l l (setnsOf (tablesOf l) c name)
     unfolding setnsOf
     setns-no-target n = refuses ESRCH l (setnsOf (tablesOf l) c name) (sym (rw (sym f ∙ v, sym g ∙ n)))
@@ -139,7 +142,7 @@ module _ (l : List ℕ) (c name : ℕ) (r : Found) (f : r ≡ processNamed (tabl
       unfolding setnsOf
       setns-member h = refuses EINVAL l (setnsOf (tablesOf l) c name) (sym (rw (sym f ∙ v, sym g ∙ w, ← e, eq-eqb (p .namespace) n h)))
 
-      module _ (h : p .namespace ≡ n → ⊥) (k : Bool) (m : k ≡ capableIn (tablesOf l) p n sysAdmin) where
+      module _ (h : p .namespace ≡ n → ⊥) (k : Bool) (m : k ≡ capableIn (tablesOf l) p n capSysAdmin) where
         pub setns-denied : k ≡ false → Promise (Refused EPERM) l l (setnsOf (tablesOf l) c name)
         unfolding setnsOf
         setns-denied t = refuses EPERM l (setnsOf (tablesOf l) c name) (sym (rw (sym f ∙ v, sym g ∙ w, ← e, ne-eqb (p .namespace) n h, ← m, t)))
@@ -150,10 +153,12 @@ module _ (l : List ℕ) (c name : ℕ) (r : Found) (f : r ≡ processNamed (tabl
 
 pub ruleset helpers = (knows-user, knows-no-user, member-is, child-is, made-is, needs)
 
-pub ruleset forks = (number-fits, fork-no-caller, fork-full, fork-done, needs)
+pub ruleset forks = (fork-no-caller, fork-full, fork-done, needs)
 
-pub ruleset clones = (number-fits, clone-no-caller, clone-deep, clone-unmapped, clone-no-space, clone-no-place, clone-done, needs)
+pub ruleset makers = (maker-no-caller, maker-deep, maker-unmapped, maker-no-space, nothing-known, not-taken, not-left, needs)
 
-pub ruleset unshares = (unshare-no-caller, unshare-deep, unshare-unmapped, unshare-no-space, unshare-done, needs)
+pub ruleset clones = (clone-refused, clone-no-place, level-below, clone-done, needs)
 
-pub ruleset joins = (setns-no-caller, setns-no-target, setns-member, setns-denied, setns-done, needs)
+pub ruleset unshares = (unshare-refused, level-below, unshare-done, needs)
+
+pub ruleset joins = (setns-no-caller, setns-no-target, setns-member, setns-denied, setns-done, not-taken, not-left, needs)

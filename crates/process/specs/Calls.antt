@@ -2,28 +2,24 @@
 use Prim.Native.Nat.{ℕ, _+_}
 use mathlib.Core.Bool.{Bool, true, false, _&&_}
 use lib.Dec.{leb, eqb}
-use Rattle.capability.specs.Sets.{fullSet}
+use Rattle.capability.specs.Sets.{capSysAdmin, fullSet}
 use Rattle.idmap.specs.declared.Translated.{Translated}
 use Rattle.idmap.specs.declared.Translated.the-variants.{Id, Unmapped}
 use Rattle.records.specs.declared.Kind.the-variants.{User, Group}
 use Rattle.records.specs.declared.Process.{Process}
 use Rattle.records.specs.declared.Namespace.{Namespace}
 use Rattle.records.specs.Records.{freeMap}
-use Rattle.tables.specs.Tables.{State, processAt, namespaceAt, putProcess, putNamespace, clearLiftedMaps}
-use Rattle.tables.specs.Find.{processNamed, namespaceNamed, freeProcessPlace, freeNamespacePlace}
+use Rattle.tables.specs.Tables.{State, maxLevel, processAt, namespaceAt, putProcess, putNamespace, clearLiftedMaps}
+use Rattle.tables.specs.Find.{processNumber, namespaceNumber, callerNamed, namespaceNamed, freeProcessPlace, freeNamespacePlace}
 use Rattle.tables.specs.Reply.{done, child, childIn, newNamespace, Outcome, refuse, onFound, when, unless}
 use Rattle.hierarchy.specs.Walks.{Translation, capableIn}
-
--- document 01: SYS_ADMIN
-abbrev pub sysAdmin : ℕ
-sysAdmin = 21
 
 -- fork: copies all but the number
 unfoldable pub forkOf : State → ℕ → Outcome
 forkOf s c =
-    onFound (processNamed s c) (refuse s 3) (λ p.
+    onFound (callerNamed s c) (refuse s 3) (λ p.
     onFound (freeProcessPlace s) (refuse s 11) (λ q.
-    record { reply = child (q + 1); tables = putProcess s q (processAt s p) }))
+    record { reply = child (processNumber q); tables = putProcess s q (processAt s p) }))
 
 -- ---- a new namespace
 abbrev pub isMapped : Translated → Bool
@@ -66,8 +62,8 @@ entered p n = record {
 -- clone and unshare alike, up to the free namespace n of caller p: 87, 1 and 28 in that order
 abbrev pub makesNamespace : Translation → State → ℕ → (ℕ → ℕ → Outcome) → Outcome
 makesNamespace by s c next =
-    onFound (processNamed s c) (refuse s 3) (λ p.
-    when (leb 32 (namespaceAt s (processAt s p .namespace) .level)) (refuse s 87)
+    onFound (callerNamed s c) (refuse s 3) (λ p.
+    when (leb maxLevel (namespaceAt s (processAt s p .namespace) .level)) (refuse s 87)
     (unless (knowsItself by (processAt s p)) (refuse s 1)
     (onFound (freeNamespacePlace s) (refuse s 28) (λ n. next p n))))
 
@@ -80,19 +76,19 @@ unfoldable pub cloneOf : Translation → State → ℕ → Outcome
 cloneOf by s c =
     makesNamespace by s c (λ p n.
     onFound (freeProcessPlace s) (refuse s 11) (λ q.
-    record { reply = childIn (q + 1) n; tables = putProcess (withChild s p n) q (entered (processAt s p) n) }))
+    record { reply = childIn (processNumber q) (namespaceNumber n); tables = putProcess (withChild s p n) q (entered (processAt s p) n) }))
 
 -- the caller becomes a member
 unfoldable pub unshareOf : Translation → State → ℕ → Outcome
 unshareOf by s c =
     makesNamespace by s c (λ p n.
-    record { reply = newNamespace n; tables = putProcess (withChild s p n) p (entered (processAt s p) n) })
+    record { reply = newNamespace (namespaceNumber n); tables = putProcess (withChild s p n) p (entered (processAt s p) n) })
 
 -- ---- setns
 unfoldable pub setnsOf : State → ℕ → ℕ → Outcome
 setnsOf s c name =
-    onFound (processNamed s c) (refuse s 3) (λ p.
-    onFound (namespaceNamed s name) (refuse s 3) (λ n.
+    onFound (callerNamed s c) (refuse s 3) (λ p.
+    onFound (namespaceNamed s p name) (refuse s 3) (λ n.
     when (eqb (processAt s p .namespace) n) (refuse s 22)
-    (unless (capableIn s (processAt s p) n sysAdmin) (refuse s 1)
+    (unless (capableIn s (processAt s p) n capSysAdmin) (refuse s 1)
     (record { reply = done; tables = putProcess s p (entered (processAt s p) n) }))))

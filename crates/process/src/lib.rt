@@ -1,10 +1,12 @@
 // Fork, clone, unshare and setns.
 ghost use mathlib.Core.Path.{_≡_};
 ghost use Prim.Native.Nat.{_<_};
-ghost use Rattle.tables.specs.Tables.{tablesOf};
+ghost use Rattle.tables.specs.Tables.{maxLevel, tablesOf};
 ghost use Rattle.tables.specs.Reply.{Promise};
 ghost use Rattle.hierarchy.specs.Lifted.{byLiftedMaps, quick};
 ghost use Rattle.process.specs.Calls.{forkOf, isMapped, knowsItself, below, withNamespace, entered, cloneOf, unshareOf, setnsOf};
+ghost use Rattle.process.specs.Making.{Makes, Known};
+use capability::CAP_SYS_ADMIN;
 use capability::CapabilitySet;
 use hierarchy::capable::capable;
 use hierarchy::translate::from_kernel;
@@ -13,14 +15,16 @@ use records::Kind;
 use records::Namespace;
 use records::Process;
 use records::namespaces::free_map;
+use tables::MAX_LEVEL;
 use tables::Tables;
 use tables::answer::Answer;
 use tables::answer::Errno;
 use tables::find::Found;
-use tables::find::find_namespace;
-use tables::find::find_process;
+use tables::find::Free;
+use tables::find::find_caller;
 use tables::find::free_namespace_place;
 use tables::find::free_process_place;
+use tables::find::named_namespace;
 use tables::lifted_maps::lifted_maps_clear;
 use tables::namespaces::namespace_at;
 use tables::namespaces::namespace_put;
@@ -32,15 +36,17 @@ use tables::processes::process_put;
 pub fn fork(t: &mut Tables, caller: u64) -> Answer
     ensures { λ r. ⌜ Promise r (now (t .entry)) (now (t .exit)) (forkOf (tablesOf (now (t .entry))) caller) ⌝ }
 {
-    let Found::At(place) = find_process(t, caller) else {
+    // The caller must exist, else 3.
+    let Found::At(place) = find_caller(t, caller) else {
         return Answer::Refused(Errno::ESRCH);
     };
-    let Found::At(free) = free_process_place(t) else {
+    // 11 if the process table is full.
+    let Free::Place(free, number) = free_process_place(t) else {
         return Answer::Refused(Errno::EAGAIN);
     };
     let p = process_at(t, place);
     process_put(t, free, p);
-    Answer::Child(free as u64 + 1)
+    Answer::Child(number)
 }
 
 fn mapped(r: Translated) -> bool
@@ -67,7 +73,7 @@ fn knows_itself(t: &Tables, p: Process) -> bool
 
 // The namespace that a process makes below its own.
 fn child_namespace(p: Process, own: Namespace) -> Namespace
-    requires { ⌜ own .level < 32 ⌝ }
+    requires { ⌜ own .level < maxLevel ⌝ }
     ensures { λ r. ⌜ r ≡ below p own ⌝ }
 {
     let ids = p.users;
@@ -85,7 +91,7 @@ fn child_namespace(p: Process, own: Namespace) -> Namespace
 
 // Puts that namespace into place `n`, with nothing left of maps that stood there before.
 fn make_namespace(t: &mut Tables, n: usize, p: Process, own: Namespace)
-    requires { ⌜ own .level < 32 ⌝ }
+    requires { ⌜ own .level < maxLevel ⌝ }
     ensures { λ r. ⌜ tablesOf (now (t .exit)) ≡ withNamespace (tablesOf (now (t .entry))) n p own ⌝ }
 {
     namespace_put(t, n, child_namespace(p, own));
@@ -110,32 +116,59 @@ fn member(p: Process, namespace: u64) -> Process
     }
 }
 
+// A refusal; or the place of the process that makes a namespace, and the free place for this with its number.
+enum Making {
+    Refuses(Errno),
+    By(usize, usize, u64),
+}
+
+// Clone and unshare alike, up to the free namespace.
+fn find_maker(t: &Tables, caller: u64) -> Making
+    ensures told { λ r. ⌜ Makes (byLiftedMaps (tablesOf (now (t .entry)))) (tablesOf (now (t .entry))) caller r ⌝ }
+    ensures known { λ r. ⌜ Known (tablesOf (now (t .entry))) r ⌝ }
+{
+    // The caller must exist, else 3.
+    let Found::At(place) = find_caller(t, caller) else {
+        return Making::Refuses(Errno::ESRCH);
+    };
+    let p = process_at(t, place);
+    let own = namespace_at(t, p.namespace as usize);
+    // 87 if the caller's level is 32.
+    if MAX_LEVEL <= own.level {
+        return Making::Refuses(Errno::EUSERS);
+    }
+    // 1 if its effective user or group ID has no translation into its own namespace.
+    if !knows_itself(t, p) {
+        return Making::Refuses(Errno::EPERM);
+    }
+    // 28 if no namespace is free.
+    let Free::Place(free, number) = free_namespace_place(t) else {
+        return Making::Refuses(Errno::ENOSPC);
+    };
+    Making::By(place, free, number)
+}
+
 // A child in a new namespace. Answers the child's number and the namespace's. Refuses: 3 no caller, 87 the caller's level is 32, 1 its
 // effective IDs are not mapped in its own namespace, 28 no namespace is free, 11 no process is free.
 // Ruled out, for instance: the two numbers in the other order; a new namespace on the caller's own level.
 pub fn clone(t: &mut Tables, caller: u64) -> Answer
     ensures { λ r. ⌜ Promise r (now (t .entry)) (now (t .exit)) (quick cloneOf (tablesOf (now (t .entry))) caller) ⌝ }
 {
-    let Found::At(place) = find_process(t, caller) else {
-        return Answer::Refused(Errno::ESRCH);
-    };
-    let p = process_at(t, place);
-    let own = namespace_at(t, p.namespace as usize);
-    if 32 <= own.level {
-        return Answer::Refused(Errno::EUSERS);
+    let made = find_maker(t, caller);
+    match made {
+        Making::Refuses(e) => Answer::Refused(e),
+        Making::By(place, n, name) => {
+            // For clone, 11 if no process is free.
+            let Free::Place(free, number) = free_process_place(t) else {
+                return Answer::Refused(Errno::EAGAIN);
+            };
+            let p = process_at(t, place);
+            let own = namespace_at(t, p.namespace as usize);
+            make_namespace(t, n, p, own);
+            process_put(t, free, member(p, n as u64));
+            Answer::ChildIn(number, name)
+        }
     }
-    if knows_itself(t, p) {} else {
-        return Answer::Refused(Errno::EPERM);
-    }
-    let Found::At(n) = free_namespace_place(t) else {
-        return Answer::Refused(Errno::ENOSPC);
-    };
-    let Found::At(free) = free_process_place(t) else {
-        return Answer::Refused(Errno::EAGAIN);
-    };
-    make_namespace(t, n, p, own);
-    process_put(t, free, member(p, n as u64));
-    Answer::ChildIn(free as u64 + 1, n as u64)
 }
 
 // The caller in a new namespace. Answers the namespace's number. Refuses as clone does, but for 11.
@@ -143,23 +176,17 @@ pub fn clone(t: &mut Tables, caller: u64) -> Answer
 pub fn unshare(t: &mut Tables, caller: u64) -> Answer
     ensures { λ r. ⌜ Promise r (now (t .entry)) (now (t .exit)) (quick unshareOf (tablesOf (now (t .entry))) caller) ⌝ }
 {
-    let Found::At(place) = find_process(t, caller) else {
-        return Answer::Refused(Errno::ESRCH);
-    };
-    let p = process_at(t, place);
-    let own = namespace_at(t, p.namespace as usize);
-    if 32 <= own.level {
-        return Answer::Refused(Errno::EUSERS);
+    let made = find_maker(t, caller);
+    match made {
+        Making::Refuses(e) => Answer::Refused(e),
+        Making::By(place, n, name) => {
+            let p = process_at(t, place);
+            let own = namespace_at(t, p.namespace as usize);
+            make_namespace(t, n, p, own);
+            process_put(t, place, member(p, n as u64));
+            Answer::NewNamespace(name)
+        }
     }
-    if knows_itself(t, p) {} else {
-        return Answer::Refused(Errno::EPERM);
-    }
-    let Found::At(n) = free_namespace_place(t) else {
-        return Answer::Refused(Errno::ENOSPC);
-    };
-    make_namespace(t, n, p, own);
-    process_put(t, place, member(p, n as u64));
-    Answer::NewNamespace(n as u64)
 }
 
 // The caller joins a namespace. Refuses: 3 no caller or no such namespace, 22 already a member, 1 without SYS_ADMIN in it.
@@ -167,20 +194,22 @@ pub fn unshare(t: &mut Tables, caller: u64) -> Answer
 pub fn setns(t: &mut Tables, caller: u64, name: u64) -> Answer
     ensures { λ r. ⌜ Promise r (now (t .entry)) (now (t .exit)) (setnsOf (tablesOf (now (t .entry))) caller name) ⌝ }
 {
-    let Found::At(place) = find_process(t, caller) else {
+    // The caller must exist, then the namespace named, else 3.
+    let Found::At(place) = find_caller(t, caller) else {
         return Answer::Refused(Errno::ESRCH);
     };
-    let Found::At(n) = find_namespace(t, name) else {
+    let Found::At(target) = named_namespace(t, place, name) else {
         return Answer::Refused(Errno::ESRCH);
     };
     let p = process_at(t, place);
-    if p.namespace == n as u64 {
+    // 22 if already a member.
+    if p.namespace == target as u64 {
         return Answer::Refused(Errno::EINVAL);
     }
-    if capable(t, p, n as u64, 21) {
-        process_put(t, place, member(p, n as u64));
-        Answer::Done
-    } else {
-        Answer::Refused(Errno::EPERM)
+    // 1 without SYS_ADMIN in the target.
+    if !capable(t, p, target as u64, CAP_SYS_ADMIN) {
+        return Answer::Refused(Errno::EPERM);
     }
+    process_put(t, place, member(p, target as u64));
+    Answer::Done
 }

@@ -6,7 +6,7 @@ use Rattle.process.proofs.fork.Tie as tie
 pub fork-spec : {M : Type 1} → statement M
 fork-spec =
     tie.close (tie.spec
-    (λ c κs. search forks)  -- find-process-requires
+    (λ c κs. search forks)  -- find-caller-requires
     (λ c. search forks)  -- enum-known-place
     (λ c. search forks)  -- enum-told
     (λ c. search forks)  -- returns
@@ -16,5 +16,4 @@ fork-spec =
     (λ c. search forks)  -- returns-2
     (λ c κs. search forks)  -- process-at-requires
     (λ c κs. search forks)  -- process-put-requires
-    (λ c. search forks)  -- add-t16
     (λ c. search forks))  -- returns-3
