@@ -19,10 +19,11 @@ use Rattle.records.specs.declared.Kind.the-variants.{Group}
 use Rattle.records.specs.declared.Ids.{Ids}
 use Rattle.tables.specs.Tables.{fixedLine}
 use Rattle.prelude.proofs.Tests.{by-test}
+use Rattle.prelude.proofs.Made.{some-none}
 use Rattle.claims.specs.Events.{Event, other, forked, cloned, unshared, joined, mapped, changed, grouped}
 use Rattle.claims.specs.Words.{isProcess, isNamespace, placeOf, parentOf, levelOf, mapOf, orNone, linesOf, standsFor, chosenOf, heldOf}
 use Rattle.claims.specs.TopLevel.{IsUnder, OnParentSide}
-use Rattle.claims.proofs.Sound.{Sound, some-none, moves, begins, makes, writes}
+use Rattle.claims.proofs.Sound.{Sound, moves, begins, makes, writes}
 
 -- caller c got child q
 pub record NewProcess (h : List Event) (c q : ℕ) : Type 0 where

@@ -6,11 +6,12 @@ use mathlib.Core.Logic.{inl, inr}
 use native.Mathlib.Omega.{arith}
 use Rattle.records.specs.declared.Kind.the-variants.{User}
 use Rattle.prelude.specs.Parts.{fitsAt, putAt}
+use Rattle.prelude.specs.Lists.{consOf, allOf}
 use Rattle.capability.specs.Sets.{holds}
 use Rattle.idmap.specs.Lookup.{out, reachOf}
 use Rattle.idmap.specs.Good.{fitsOf, boundedOf, apartSide, apartOf, allApart, goodOf}
 use Rattle.idmap.specs.Cover.{coveredIn, coveredOf}
-use Rattle.idmap.specs.Text.{pieces, filled, consOf, allOf, allDigits, decimal, numberOf, numbersOf, threeOf, lineOf, textLines, checked, mapLines}
+use Rattle.idmap.specs.Text.{pieces, filled, allDigits, decimal, numberOf, numbersOf, threeOf, lineOf, textLines, checked, mapLines}
 use Rattle.idmap.specs.Text.{padded}
 use Rattle.idmap.specs.Show.{shown, numberText, lineColumns, lineText, linesText}
 use Rattle.tables.specs.Tables.{processAt, namespaceAt, initialTables}

@@ -3,15 +3,16 @@ use Prim.Native.Nat.{ℕ, suc, _-_, _≤_, _<_, _^_}
 use mathlib.Core.Path.{_≡_, refl, sym, ap, _∙_, subst}
 use mathlib.Core.Bool.{Bool, true, false, cond, _&&_}
 use mathlib.Core.List.{List, [], _∷_, map}
-use mathlib.Core.Option.{Option, none, some}
+use mathlib.Core.Option.{some}
 use lib.Dec.{eqb}
 use lib.ListN.{length, take, replicate}
 use lib.Seq.{take-append-seam}
 use borrow.Author.Tests.{eqb-true, ltb-false}
+use Rattle.prelude.specs.Lists.{allOf}
+use Rattle.prelude.proofs.Made.{cons-some, some-none}
 use Rattle.idmap.specs.declared.Translated.{Translated}
 use Rattle.idmap.specs.declared.Translated.the-variants.{Id, Unmapped}
 use Rattle.idmap.specs.Lookup.{orNoId}
-use Rattle.idmap.specs.Text.{consOf, allOf}
 use Rattle.records.specs.declared.Kind.{Kind}
 use Rattle.records.specs.declared.Kind.the-variants.{User, Group}
 use Rattle.records.specs.declared.Ids.{Ids}
@@ -34,7 +35,7 @@ use Rattle.claims.proofs.Allowed.{AllStand}
 use Rattle.claims.proofs.Stores.{cond-ap, named, process-in-range, same-number}
 use Rattle.claims.proofs.Agree.{picked-same, stores-process, keeps-process, caller-is, caller-live, caller-place, caller-ids}
 use Rattle.claims.proofs.Translating.{byHistory}
-use Rattle.claims.proofs.Sound.{some-none, same-kind}
+use Rattle.claims.proofs.Sound.{same-kind}
 use Rattle.prelude.proofs.Tests.{by-test, and-right}
 use Rattle.claims.proofs.Steps.{Next, nothing-happened, After}
 use Rattle.claims.proofs.Cases.{set-ids-case, set-groups-case, drop-case}
@@ -77,12 +78,6 @@ sets-ids Group p permitted effective = refl
 option-id : (t : Translated) (y : ℕ) → toOption t ≡ some y → t ≡ Id y
 option-id (Id x) y e = let f : x ≡ y = cc in ap Id f
 option-id Unmapped y e = absurd (some-none (sym e))
-
-cons-some : (o : Option ℕ) (r : Option (List ℕ)) (l : List ℕ) → consOf o r ≡ some l → (y : ℕ) × (ys : List ℕ) × (o ≡ some y) × (r ≡ some ys) × (l ≡ y ∷ ys)
-unfolding consOf
-cons-some none r l e = absurd (some-none (sym e))
-cons-some (some y) none l e = absurd (some-none (sym e))
-cons-some (some y) (some ys) l e = (y, ys, refl, refl, cc)
 
 groups-are : (g : ℕ → Translated) (list l : List ℕ) → allOf (λ (x : ℕ). toOption (g x)) list ≡ some l → l ≡ map (λ (x : ℕ). orNoId (g x)) list
 unfolding allOf

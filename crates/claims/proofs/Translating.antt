@@ -19,6 +19,7 @@ use Rattle.tables.specs.Tables.{State, fixedLine}
 use Rattle.hierarchy.specs.Walks.{Translation, heightOf, itself}
 use Rattle.hierarchy.specs.Lifted.{outIn, toKernelBy, toKernel, backIn, fromKernelBy, fromKernel, byLiftedMaps}
 use Rattle.prelude.proofs.Tests.{by-test}
+use Rattle.prelude.proofs.Made.{some-none}
 use Rattle.claims.specs.Translation.{byLevels, outBy, backBy}
 use Rattle.claims.specs.Events.{Event, other, forked, cloned, unshared, joined, mapped, changed, grouped}
 use Rattle.claims.specs.Words.{isNamespace, placeOf, parentOf, levelOf, mapOf, linesOf, standsFor}
@@ -27,7 +28,7 @@ use Rattle.claims.specs.LiftedMaps.{liftOf}
 use Rattle.claims.proofs.Beside.{Beside}
 use Rattle.claims.proofs.Pairs.{back-pairs, parent-small}
 use Rattle.claims.proofs.Agree.{lines-agree}
-use Rattle.claims.proofs.Sound.{some-none, deep}
+use Rattle.claims.proofs.Sound.{deep}
 use Rattle.claims.proofs.Levels.{by-translated, out-is, is-out, back-is, is-back, out-back, back-out, back-small}
 use Rattle.claims.proofs.Allowed.{Allowed, Valid, SoundAt, sound}
 use Rattle.claims.proofs.Lifting.{Lifts, parented, written, lift-falls, out-lifted, lifted-out}

@@ -4,12 +4,13 @@ use mathlib.Core.Bool.{true, false}
 use mathlib.Core.List.{[], _∷_}
 use mathlib.Core.Option.{none, some}
 use Prim.Native.Nat.{ℕ}
+use Rattle.prelude.specs.Lists.{consOf, allOf}
 use Rattle.idmap.specs.declared.Line.{Line}
 use Rattle.idmap.specs.declared.Translated.the-variants.{Id, Unmapped}
 use Rattle.idmap.specs.Lookup.{out, back, reachOf}
 use Rattle.idmap.specs.Good.{fitsOf, boundedOf, apartSide, apartOf, allApart, goodOf}
 use Rattle.idmap.specs.Cover.{coveredIn, coveredOf}
-use Rattle.idmap.specs.Text.{pieces, filled, consOf, allOf, allDigits, decimal, numberOf, numbersOf, threeOf, lineOf, textLines, checked, mapLines}
+use Rattle.idmap.specs.Text.{pieces, filled, allDigits, decimal, numberOf, numbersOf, threeOf, lineOf, textLines, checked, mapLines}
 
 abbrev line : ℕ → ℕ → ℕ → Line
 line a b c = record { inside = a; parent = b; count = c }

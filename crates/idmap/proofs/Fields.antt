@@ -10,9 +10,11 @@ use lib.ListN.{take, drop, take-append-drop}
 use lib.Dec.{leb}
 use borrow.Author.Tests.{ne-eqb, leb-true}
 use Rattle.idmap.specs.Good.{noId}
-use Rattle.idmap.specs.Text.{isBlank, isDigit, longer, pieces, filled, consOf, allOf, allDigits, decimal, numberOf, numbersOf}
+use Rattle.idmap.specs.Text.{isBlank, isDigit, longer, pieces, filled, allDigits, decimal, numberOf, numbersOf}
 use Rattle.idmap.specs.Scan.{run, value}
 use Rattle.prelude.proofs.Tests.{by-test, both}
+use Rattle.prelude.proofs.Made.{cons-none}
+use Rattle.prelude.specs.Lists.{consOf, allOf}
 
 -- a digit is no blank
 digit-solid : (c : ℕ) → isDigit c ≡ true → isBlank c ≡ false
@@ -134,11 +136,6 @@ run-stopped : (s : List ℕ) → Stopped (drop (run isDigit s) s)
 unfolding run
 run-stopped [] = tt
 run-stopped (c ∷ s) = by-test (isDigit c) (λ t. rw t (run-stopped s)) (λ t. rw t t)
-
-cons-none : {A : Type 0} (a : Option A) → consOf a none ≡ none
-unfolding consOf
-cons-none none = refl
-cons-none (some a) = refl
 
 module _ (c : ℕ) (w : List ℕ) (d : allDigits (c ∷ w) ≡ true) where
   numbers-after : (v : List ℕ) → numbersOf (c ∷ (w ++ v)) ≡ consOf (numberOf (c ∷ (w ++ firstOf (pieces isBlank v)))) (allOf numberOf (filled (laterOf (pieces isBlank v))))

@@ -16,9 +16,11 @@ use Rattle.idmap.specs.declared.text.Number.the-variants.{Value, NoNumbe
 use Rattle.idmap.specs.declared.text.LineRead.{LineRead}
 use Rattle.idmap.specs.declared.text.LineRead.the-variants.{Read, NoLine}
 use Rattle.idmap.specs.Good.{noId}
-use Rattle.idmap.specs.Text.{isNewline, isBlank, isDigit, pieces, consOf, allOf, numbersOf, threeOf, lineOf, textLines}
+use Rattle.idmap.specs.Text.{isNewline, isBlank, isDigit, pieces, numbersOf, threeOf, lineOf, textLines}
 use Rattle.idmap.specs.Scan.{run, value, skipped, ended, numberAt, fieldAt, lineEnd, thenNumber, scanLine}
 use Rattle.prelude.proofs.Tests.{by-test, cond-elim}
+use Rattle.prelude.proofs.Made.{cons-first}
+use Rattle.prelude.specs.Lists.{consOf, allOf}
 use Rattle.idmap.proofs.Fields.{number-front, numbers-skip, numbers-none, numbers-other, numbers-front, numbers-more}
 
 -- ---- a text is its first line and what follows
@@ -120,10 +122,6 @@ ended-value p e v t u = rw (t, u)
 ended-over : (p e v : ℕ) → leb v noId ≡ false → ended p e v ≡ NoNumber
 unfolding ended
 ended-over p e v t = rw t
-
-cons-first : {A : Type 0} (r : Option (List A)) → consOf none r ≡ none
-unfolding consOf
-cons-first r = refl
 
 -- the number that stands in the line from place p on
 digits-number : (y : List ℕ) → 0 < run isDigit y → numbersOf y ≡ consOf (cond (leb (value 0 y) noId) (some (value 0 y)) none) (numbersOf (drop (run isDigit y) y))

@@ -11,10 +11,11 @@ use lib.Seq.{append-snoc}
 use borrow.Author.Tests.{le-leb, ne-eqb, eqb-true}
 use Rattle.idmap.specs.declared.Line.{Line}
 use Rattle.idmap.specs.Good.{maxLines, noId, goodOf}
-use Rattle.idmap.specs.Text.{isDigit, pieces, consOf, allOf, numbersOf, threeOf, lineOf, textLines, checked, mapLines}
+use Rattle.idmap.specs.Text.{isDigit, pieces, numbersOf, threeOf, lineOf, textLines, checked, mapLines}
 use Rattle.idmap.specs.Scan.{run, value}
 use Rattle.idmap.specs.Show.{lastDigit, columnOf, shown, numberText, lineColumns, lineText, linesText}
 use Rattle.prelude.proofs.Tests.{by-test}
+use Rattle.prelude.specs.Lists.{consOf, allOf}
 use Rattle.idmap.proofs.FirstLine.{Solid, at-newline, first-piece}
 use Rattle.idmap.proofs.Fields.{number-front, numbers-skip, numbers-front, numbers-none}
 use Rattle.idmap.proofs.Words.{Narrow, AllNarrow}

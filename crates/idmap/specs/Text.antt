@@ -5,6 +5,7 @@ use mathlib.Core.List.{List, [], _∷_, _++_}
 use mathlib.Core.Option.{Option, none, some}
 use lib.Dec.{leb, eqb}
 use lib.ListN.{length, replicate}
+use Rattle.prelude.specs.Lists.{allOf}
 use Rattle.idmap.specs.declared.Line.{Line}
 use Rattle.idmap.specs.declared.text.Parsed.the-variants.{Lines, Bad}
 use Rattle.idmap.specs.declared.text.MapText.{MapText}
@@ -35,16 +36,6 @@ unfoldable pub filled : List (List ℕ) → List (List ℕ)
 filled [] = []
 filled ([] ∷ ps) = filled ps
 filled ((c ∷ p) ∷ ps) = (c ∷ p) ∷ filled ps
-
--- what each gives, or nothing where one gives nothing
-unfoldable pub consOf : {A : Type 0} → Option A → Option (List A) → Option (List A)
-consOf none rest = none
-consOf (some a) none = none
-consOf (some a) (some as′) = some (a ∷ as′)
-
-unfoldable pub allOf : {A B : Type 0} → (A → Option B) → List A → Option (List B)
-allOf f [] = some []
-allOf f (a ∷ l) = consOf (f a) (allOf f l)
 
 -- a number: digits, of value at most 4,294,967,295
 unfoldable pub allDigits : List ℕ → Bool

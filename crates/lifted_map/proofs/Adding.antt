@@ -13,6 +13,7 @@ use borrow.Author.Needs.{needs}
 use borrow.Author.Tests.{eq-eqb, ne-eqb, le-leb, lt-leb, ltb-true, ltb-false}
 use Rattle.prelude.proofs.Tests.{by-test}
 use Rattle.prelude.proofs.Lists.{left-step, left-none}
+use Rattle.prelude.proofs.Made.{some-none}
 use Rattle.idmap.specs.declared.Line.{Line}
 use Rattle.idmap.specs.Line.{noLine, more, lineAt, linesIn}
 use Rattle.idmap.proofs.Words.{lines-step, lines-end}
@@ -145,9 +146,6 @@ added-with-ids ks (m ∷ ms) h =
 
 some-is : {x y : List Line} → some x ≡ some y → x ≡ y
 some-is e = cc
-
-some-none : {x : List Line} → some x ≡ none → ⊥
-some-none e = let z : _≡_ {A = ℕ} 0 1 = cc in omega arith
 
 module _ (above : Lifted) (ls : List Line) (ws : List ℕ) (n : ℕ) (e : piecesIn ws n ≡ addedAll (some []) (piecesOf (above .lines) ls)) where
   kept : piecesIn ws n ≡ keptOf (composedOf (above .lines) ls)

@@ -5,11 +5,11 @@ use mathlib.Core.List.{List, [], _∷_}
 use mathlib.Core.Bool.{Bool, true, false, cond}
 use lib.ListN.{length, getD, take, drop, replicate}
 use lib.Dec.{eqb}
+use Rattle.prelude.specs.Lists.{tab}
 use Rattle.capability.specs.Sets.{emptySet}
 use Rattle.idmap.specs.declared.Line.{Line}
 use Rattle.idmap.specs.Line.{noLine, lineAt}
 use Rattle.idmap.specs.Good.{maxLines}
-use Rattle.rows.specs.Rows.{tab}
 use Rattle.records.specs.declared.Kind.{Kind}
 use Rattle.records.specs.declared.Kind.the-variants.{User, Group}
 use Rattle.records.specs.declared.Ids.{Ids}

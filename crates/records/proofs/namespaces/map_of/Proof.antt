@@ -1,7 +1,7 @@
 -- `records::namespaces::map_of` meets its contract. Assumes nothing.
 use Prim.Native.Nat.{ℕ, _+_, _*_}
+use Rattle.prelude.specs.Lists.{tab}
 use Rattle.idmap.specs.Line.{lineAt}
-use Rattle.rows.specs.Rows.{tab}
 use borrow.Author.Needs.{needs}
 use Rattle.records.proofs.namespaces.map_of.Statement.{statement}
 use Rattle.records.proofs.namespaces.map_of.Tie as tie

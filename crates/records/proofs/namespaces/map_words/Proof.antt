@@ -1,8 +1,8 @@
 -- `records::namespaces::map_words` meets its contract. Assumes nothing.
 use mathlib.Core.Path.{_≡_}
 use lib.ListN.{length, getD}
+use Rattle.prelude.proofs.Made.{length-mapped}
 use Rattle.idmap.specs.Line.{noLine}
-use Rattle.rows.proofs.Lists.{length-mapped}
 use Rattle.records.proofs.Records.{NarrowLine, map-round}
 use borrow.Author.Needs.{needs}
 use Rattle.records.proofs.namespaces.map_words.Statement.{statement}
