@@ -13,7 +13,7 @@ use Rattle.calls.specs.declared.Call.{Call}
 use Rattle.calls.specs.declared.Call.the-variants.{Fork, Clone, Unshare, Setns, WriteMap, WriteSetgroups, ReadMap, ReadSetgroups, SetIds, SetGroups, Capable, Drop, OwnIdsOf, Translate}
 use Rattle.calls.specs.Calls.{Request}
 use Rattle.claims.specs.Events.{Event}
-use Rattle.claims.specs.Words.{isProcess, placeOf, linesOf, standsFor, heldOf, held}
+use Rattle.claims.specs.Words.{isProcess, placeOf, writtenLines, standsFor, heldOf, held}
 use Rattle.claims.specs.TopLevel.{TopLevel, IsUnder, OutOf, BackOf, Stands, OnParentSide, Has, Descends, Entered}
 use Rattle.claims.specs.History.{Entry, run, history, events}
 use Rattle.claims.specs.Agreement.{Agreed}
@@ -73,7 +73,7 @@ module _ (rs : List Request) where
     -- if two top-level namespaces' written maps share no kernel ID, then none that is mapped in one, or in any namespace nested at any depth
     -- under it, is mapped in the other or in any namespace under that
     pub disjoint : (k : Kind) (a b : ℕ) → (a ≡ b → ⊥) → TopLevel h a → TopLevel h b
-        → ((y : ℕ) → OnParentSide (linesOf k h a) y → OnParentSide (linesOf k h b) y → ⊥)
+        → ((y : ℕ) → OnParentSide (writtenLines k h a) y → OnParentSide (writtenLines k h b) y → ⊥)
         → (m n y : ℕ) → IsUnder h a m → IsUnder h b n → Stands k h m y → Stands k h n y → ⊥
     -- if a process was in a top-level namespace, or in anything nested under it, after any call of the list, it is still in it or under it at the
     -- list's end, and that is a top-level namespace still. The histories after the calls of the list are the parts that the whole history ends in, since the newest stands first

@@ -46,12 +46,12 @@ unfoldable pub decimal : ℕ → List ℕ → ℕ
 decimal v [] = v
 decimal v (c ∷ s) = decimal (v * 10 + (c - 48)) s
 
-unfoldable pub numberOf : List ℕ → Option ℕ
-numberOf s = cond (allDigits s && leb (decimal 0 s) noId) (some (decimal 0 s)) none
+unfoldable pub decimalOf : List ℕ → Option ℕ
+decimalOf s = cond (allDigits s && leb (decimal 0 s) noId) (some (decimal 0 s)) none
 
 -- a line: three numbers with one or more spaces or tabs between, and any before or after
 unfoldable pub numbersOf : List ℕ → Option (List ℕ)
-numbersOf line = allOf numberOf (filled (pieces isBlank line))
+numbersOf line = allOf decimalOf (filled (pieces isBlank line))
 
 unfoldable pub threeOf : Option (List ℕ) → Option Line
 threeOf none = none

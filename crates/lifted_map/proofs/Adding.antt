@@ -17,7 +17,7 @@ use Rattle.prelude.proofs.Made.{some-none}
 use Rattle.idmap.specs.declared.Line.{Line}
 use Rattle.idmap.specs.Line.{noLine, more, lineAt, linesIn}
 use Rattle.idmap.proofs.Words.{lines-step, lines-end}
-use Rattle.lifted_map.specs.Lift.{commonOf, piecesOf, withIds, composedOf, Lifted, liftedOf, placesIn, liftedIn}
+use Rattle.lifted_map.specs.Lift.{commonOf, piecesOf, nonEmpty, composedOf, Lifted, liftedOf, placesIn, liftedIn}
 use Rattle.lifted_map.specs.Adding.{piecesIn, added, addedAll}
 use Rattle.lifted_map.proofs.Places.{places, put-place, put-head}
 
@@ -101,7 +101,7 @@ module _ (above lines : List Line) (count n i : ℕ) (ws : List ℕ) (inv : adde
       ∙ sym (rw (left-step lines count i noLine (omega arith) (omega arith)))
       ∙ inv
 
--- ---- put_lines: the first i lines are in their places
+-- ---- put_unlifted: the first i lines are in their places
 front-all : (lines : List Line) (count : ℕ) → length lines ≡ 5 → take (min count 5) lines ≡ take count lines
 front-all lines count long =
     by-test (ltb count 5)
@@ -129,20 +129,20 @@ unfolding addedAll added
 added-none [] = refl
 added-none (k ∷ ks) = added-none ks
 
-added-with-ids : (ks ms : List Line) → length ks ≤ 33 → addedAll (some ks) ms ≡ keptOf (ks ++ withIds ms)
-unfolding addedAll added withIds keptOf
-added-with-ids ks [] h = sym (rw (append-nil ks, le-leb (length ks) 33 h))
-added-with-ids ks (m ∷ ms) h =
+added-non-empty : (ks ms : List Line) → length ks ≤ 33 → addedAll (some ks) ms ≡ keptOf (ks ++ nonEmpty ms)
+unfolding addedAll added nonEmpty keptOf
+added-non-empty ks [] h = sym (rw (append-nil ks, le-leb (length ks) 33 h))
+added-non-empty ks (m ∷ ms) h =
     by-test (eqb (m .count) 0)
-    (λ t. rw t (added-with-ids ks ms h))
+    (λ t. rw t (added-non-empty ks ms h))
     (λ t.
     by-test (ltb (length ks) 33)
     (λ u.
     let k = ltb-true (length ks) 33 u in
-    rw (t, u) (added-with-ids (ks ++ (m ∷ [])) ms (simp length-append (omega arith)) ∙ rw (append-assoc ks (m ∷ []) (withIds ms))))
+    rw (t, u) (added-non-empty (ks ++ (m ∷ [])) ms (simp length-append (omega arith)) ∙ rw (append-assoc ks (m ∷ []) (nonEmpty ms))))
     (λ u.
     let k = ltb-false (length ks) 33 u in
-    rw (t, u) (added-none ms ∙ sym (rw (lt-leb (length (ks ++ (m ∷ withIds ms))) 33 (simp length-append (omega arith)))))))
+    rw (t, u) (added-none ms ∙ sym (rw (lt-leb (length (ks ++ (m ∷ nonEmpty ms))) 33 (simp length-append (omega arith)))))))
 
 some-is : {x y : List Line} → some x ≡ some y → x ≡ y
 some-is e = cc
@@ -150,7 +150,7 @@ some-is e = cc
 module _ (above : Lifted) (ls : List Line) (ws : List ℕ) (n : ℕ) (e : piecesIn ws n ≡ addedAll (some []) (piecesOf (above .lines) ls)) where
   kept : piecesIn ws n ≡ keptOf (composedOf (above .lines) ls)
   unfolding composedOf
-  kept = e ∙ added-with-ids [] (piecesOf (above .lines) ls) (omega arith)
+  kept = e ∙ added-non-empty [] (piecesOf (above .lines) ls) (omega arith)
 
   pub lift-fits : (parent : ℕ) (ws′ : List ℕ) → n ≤ 33 → liftedIn ws′ ≡ record { base = above .base; lines = take n (placesIn ws) } → liftedIn ws′ ≡ liftedOf above parent ls
   unfolding liftedOf piecesIn keptOf

@@ -30,12 +30,12 @@ piecesOf above [] = []
 piecesOf above (l ∷ ls) = map (commonOf l) above ++ piecesOf above ls
 
 -- those that hold an ID
-unfoldable pub withIds : List Line → List Line
-withIds [] = []
-withIds (k ∷ ks) = cond (eqb (k .count) 0) (withIds ks) (k ∷ withIds ks)
+unfoldable pub nonEmpty : List Line → List Line
+nonEmpty [] = []
+nonEmpty (k ∷ ks) = cond (eqb (k .count) 0) (nonEmpty ks) (k ∷ nonEmpty ks)
 
 unfoldable pub composedOf : List Line → List Line → List Line
-composedOf above ls = withIds (piecesOf above ls)
+composedOf above ls = nonEmpty (piecesOf above ls)
 
 -- the most lines that a lifted map has. Five lines through eight levels make no more
 abbrev pub maxPieces : ℕ

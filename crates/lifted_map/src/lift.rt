@@ -38,7 +38,7 @@ fn common(l: Line, p: Line) -> Line
 }
 
 // Stores a line at place `n` of a row. A place past the last takes nothing.
-fn put(row: &mut LiftedMap, n: usize, l: Line)
+fn put_place(row: &mut LiftedMap, n: usize, l: Line)
     requires { ⌜ n ≤ maxPieces ⌝ }
     ensures stored { λ r. ⌜ placesIn (now (row .exit)) ≡ set (placesIn (now (row .entry))) n l ⌝ }
     ensures room { λ r. ⌜ length (placesIn (now (row .entry))) ≡ maxPieces ⌝ }
@@ -66,7 +66,7 @@ fn add(row: &mut LiftedMap, n: usize, piece: Line) -> usize
     if MAX_PIECES < n {
         return n;
     }
-    put(row, n, piece);
+    put_place(row, n, piece);
     n + 1
 }
 
@@ -111,14 +111,14 @@ fn put_pieces(row: &mut LiftedMap, above: &[u64], lines: [Line; MAX_LINES], coun
 }
 
 // Makes a row the first `count` lines as they are, with their parent as the base.
-fn put_lines(row: &mut LiftedMap, lines: [Line; MAX_LINES], count: usize, parent: u64)
+fn put_unlifted(row: &mut LiftedMap, lines: [Line; MAX_LINES], count: usize, parent: u64)
     ensures { λ r. ⌜ liftedIn (now (row .exit)) ≡ record { base = parent; lines = take count lines } ⌝ }
 {
     let end = given(count);
     let mut i: usize = 0;
     while i < end {
         let l = lines[i];
-        put(row, i, l);
+        put_place(row, i, l);
         i += 1;
     }
     put_head(row, end, parent);
@@ -138,7 +138,7 @@ pub fn lift(
 {
     let n = put_pieces(row, above, lines, count);
     if MAX_PIECES < n {
-        put_lines(row, lines, count, parent);
+        put_unlifted(row, lines, count, parent);
     } else {
         put_head(row, n, base);
     }
