@@ -117,7 +117,7 @@ pub record Held : Type 0 where
 abbrev pub held : Held → List ℕ
 held c = c .three .real ∷ c .three .effective ∷ c .three .saved ∷ c .supplementary
 
--- one of the three IDs of an ID change: 4294967295 leaves it as it is, another is what it stands for in the caller's namespace
+-- one of the three IDs of an ID change: 'no ID' leaves it as it is, another is what it stands for in the caller's namespace
 abbrev pub chosenOf : Kind → List Event → ℕ → ℕ → ℕ → Translated
 chosenOf k h n x old = cond (eqb x noId) (Id old) (standsFor k h n x)
 

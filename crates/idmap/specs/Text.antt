@@ -12,6 +12,10 @@ use Rattle.idmap.specs.declared.text.MapText.{MapText}
 use Rattle.idmap.specs.Line.{noLine}
 use Rattle.idmap.specs.Good.{maxLines, noId, goodOf}
 
+-- document 01: the most bytes that the text of a map has
+abbrev pub maxTextBytes : ℕ
+maxTextBytes = 4095
+
 -- bytes
 abbrev pub isNewline : ℕ → Bool
 isNewline c = eqb c 10

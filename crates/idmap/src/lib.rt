@@ -10,6 +10,12 @@ pub mod text;
 // The most lines that a map has.
 pub const MAX_LINES: usize = 5;
 
+// The words that a line is kept in.
+pub const LINE_WORDS: usize = 3;
+
+// The most bytes that the text of a map has.
+pub const MAX_TEXT_BYTES: usize = 4095;
+
 // The value that means 'no ID' and is never mapped.
 pub const NO_ID: u32 = 4294967295;
 

@@ -5,6 +5,7 @@ ghost use Prim.Native.Nat.{_+_, _<_};
 ghost use lib.ListN.{length};
 ghost use Rattle.idmap.specs.Line.{inRange, lineAt, linesIn};
 ghost use Rattle.idmap.specs.Lookup.{facingOf, movedBy, out, back, idOr, reachOf};
+use crate::LINE_WORDS;
 use crate::Line;
 use crate::Translated;
 
@@ -54,12 +55,12 @@ fn first(words: &[u64], id: u32, backward: bool) -> Translated
     ensures { λ r. ⌜ r ≡ out (map (facingOf backward) (linesIn (now (words .entry)))) id ⌝ }
 {
     let mut i: usize = 0;
-    while 3 <= words.len() - i {
+    while LINE_WORDS <= words.len() - i {
         let l = facing(line_at(words, i), backward);
         if in_range(id, l.inside, l.count) {
             return Translated::Id(moved(l, id));
         }
-        i += 3;
+        i += LINE_WORDS;
     }
     Translated::Unmapped
 }
@@ -93,13 +94,13 @@ pub fn reach(words: &[u64], id: u32) -> u32
     ensures { λ r. ⌜ r ≡ reachOf (linesIn (now (words .entry))) id ⌝ }
 {
     let mut i: usize = 0;
-    while 3 <= words.len() - i {
+    while LINE_WORDS <= words.len() - i {
         let l = line_at(words, i);
         let offset = std::num::wrapping_sub_u32(id, l.inside);
         if offset < l.count {
             return l.count - offset;
         }
-        i += 3;
+        i += LINE_WORDS;
     }
     0
 }

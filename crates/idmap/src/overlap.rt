@@ -5,6 +5,7 @@ ghost use lib.ListN.{take, drop};
 ghost use Rattle.idmap.specs.Good.{fitsOf, boundedOf, apartSide, apartOf, allApart, goodOf};
 use crate::Line;
 use crate::MAX_LINES;
+use crate::NO_ID;
 
 pub fn least(a: u64, b: u64) -> u64
     ensures { λ r. ⌜ r ≡ min a b ⌝ }
@@ -22,8 +23,8 @@ pub fn most(a: u64, b: u64) -> u64
 fn fits(l: Line) -> bool
     ensures { λ r. ⌜ r ≡ fitsOf l ⌝ }
 {
-    (l.inside as u64) + (l.count as u64) <= 4294967295
-        && (l.parent as u64) + (l.count as u64) <= 4294967295
+    (l.inside as u64) + (l.count as u64) <= NO_ID as u64
+        && (l.parent as u64) + (l.count as u64) <= NO_ID as u64
 }
 
 // The count is over 0, and both sides fit.

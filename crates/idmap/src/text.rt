@@ -8,6 +8,7 @@ ghost use Rattle.idmap.specs.Scan.{skipped, ended, numberAt, fieldAt, li
 use super::overlap::good;
 use crate::Line;
 use crate::MAX_LINES;
+use crate::NO_ID;
 
 // How many lines a map's text has, or that it is no map's text.
 pub enum Parsed {
@@ -84,7 +85,7 @@ fn digits(s: &[u8], at: usize) -> NumberRead
             return made(at, i, v);
         }
         v = v * 10 + (c - 48) as u64;
-        if 4294967295 < v {
+        if (NO_ID as u64) < v {
             return NumberRead::NoNumber;
         }
         i += 1;

@@ -1,13 +1,13 @@
 -- What the code keeps beside a map, and is NOT to be believed: the map lifted over the maps above it, its lines as the pieces that they have in common
 -- with those above, so that one search translates through several levels. That it translates as they do is proved. Assumes nothing.
-use Prim.Native.Nat.{ℕ, _+_, _-_, min, max}
+use Prim.Native.Nat.{ℕ, _+_, _-_, _*_, min, max}
 use mathlib.Core.Bool.{cond}
 use mathlib.Core.List.{List, [], _∷_, _++_, map}
 use lib.Dec.{leb, eqb}
 use lib.ListN.{length, getD, take}
 use Rattle.prelude.specs.Parts.{part}
 use Rattle.idmap.specs.declared.Line.{Line}
-use Rattle.idmap.specs.Line.{more, linesIn}
+use Rattle.idmap.specs.Line.{more, lineWords, linesIn}
 
 -- where the parent side of line l and the inside of line p above start and end together
 abbrev pub startOf : Line → Line → ℕ
@@ -54,9 +54,18 @@ liftedOf above parent ls =
     (record { base = above .base; lines = composedOf (above .lines) ls })
     (record { base = parent; lines = ls })
 
--- a lifted map as a row of words: how many lines there are, the base, and three words for each of as many lines as there may be
+-- a lifted map as a row of words: how many lines there are and the base, and the words of as many lines as there may be
+abbrev pub headWords : ℕ
+headWords = 2
+
+abbrev pub pieceWords : ℕ
+pieceWords = lineWords * maxPieces
+
+abbrev pub liftedWidth : ℕ
+liftedWidth = headWords + pieceWords
+
 abbrev pub placesIn : List ℕ → List Line
-placesIn ws = linesIn (part 99 2 ws)
+placesIn ws = linesIn (part pieceWords headWords ws)
 
 unfoldable pub countedLines : List ℕ → List Line
 countedLines ws = take (getD ws 0 0) (placesIn ws)

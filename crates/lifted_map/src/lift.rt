@@ -8,8 +8,10 @@ ghost use Rattle.idmap.specs.Good.{maxLines};
 ghost use Rattle.idmap.specs.Line.{linesIn};
 ghost use Rattle.lifted_map.specs.Lift.{commonOf, piecesOf, maxPieces, placesIn, liftedIn, liftedOf};
 ghost use Rattle.lifted_map.specs.Adding.{piecesIn, added, addedAll};
+use crate::HEAD_WORDS;
 use crate::LiftedMap;
 use crate::MAX_PIECES;
+use idmap::LINE_WORDS;
 use idmap::Line;
 use idmap::MAX_LINES;
 use idmap::overlap::least;
@@ -44,7 +46,7 @@ fn put_place(row: &mut LiftedMap, n: usize, l: Line)
     ensures room { λ r. ⌜ length (placesIn (now (row .entry))) ≡ maxPieces ⌝ }
 {
     let words = [l.inside as u64, l.parent as u64, l.count as u64];
-    rows::put(row, 2 + n * 3, &words);
+    rows::put(row, HEAD_WORDS + n * LINE_WORDS, &words);
 }
 
 // Stores how many lines a row has, and its base.
@@ -76,14 +78,14 @@ fn add_pieces(row: &mut LiftedMap, n: usize, above: &[u64], l: Line) -> usize
 {
     let mut k = n;
     let mut i: usize = 0;
-    while 3 <= above.len() - i {
+    while LINE_WORDS <= above.len() - i {
         let p = Line {
             inside: (above[i] % 4294967296) as u32,
             parent: (above[i + 1] % 4294967296) as u32,
             count: (above[i + 2] % 4294967296) as u32,
         };
         k = add(row, k, common(l, p));
-        i += 3;
+        i += LINE_WORDS;
     }
     k
 }

@@ -2,13 +2,14 @@
 use mathlib.Core.Path.{_≡_}
 use Prim.Native.Nat.{_≤_, _-_, min}
 use lib.ListN.{take}
+use Rattle.idmap.specs.Good.{maxLines}
 use Rattle.lifted_map.specs.Lift.{placesIn}
 use Rattle.lifted_map.proofs.Adding.{adding}
 use Rattle.lifted_map.proofs.lift.put_unlifted.Statement.{statement}
 use Rattle.lifted_map.proofs.lift.put_unlifted.Tie as tie
 
 abbrev Inv-loop : tie.InvT-loop
-Inv-loop row₀ count parent lines end i₀ row i = (end ≡ min count 5) × (i ≤ end) × (take i (placesIn row) ≡ take i lines)
+Inv-loop row₀ count parent lines end i₀ row i = (end ≡ min count maxLines) × (i ≤ end) × (take i (placesIn row) ≡ take i lines)
 
 abbrev μ-loop : tie.MeasureT-loop
 μ-loop row₀ count parent lines end i₀ row i = end - i
