@@ -52,13 +52,13 @@ module _ (p : ℕ → Bool) (s : List ℕ) (i : ℕ) where
 
 -- ---- skip
 module _ (s : List ℕ) (at i : ℕ) (inv : skipped s at ≡ skipped s i) where
-  pub skip-step : (t : Bool) → i < length s → t ≡ isBlank (getD s i 0) → t ≡ true → skipped s at ≡ skipped s (i + 1)
+  pub skip-step : (t : Bool) → i < length s → t ≡ isBlank (getD s i 0) → not t ≡ false → skipped s at ≡ skipped s (i + 1)
   unfolding skipped
-  skip-step t h e y = inv ∙ span-step isBlank s i h (sym e ∙ y)
+  skip-step t h e y = inv ∙ span-step isBlank s i h (sym e ∙ not-false t y)
 
-  pub skip-stop : (t : Bool) → i < length s → t ≡ isBlank (getD s i 0) → t ≡ false → i ≡ skipped s at
+  pub skip-stop : (t : Bool) → i < length s → t ≡ isBlank (getD s i 0) → not t ≡ true → i ≡ skipped s at
   unfolding skipped
-  skip-stop t h e n = sym (inv ∙ span-stop isBlank s i h (sym e ∙ n))
+  skip-stop t h e n = sym (inv ∙ span-stop isBlank s i h (sym e ∙ not-true t n))
 
   pub skip-end : length s ≤ i → i ≡ skipped s at
   unfolding skipped

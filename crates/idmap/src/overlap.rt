@@ -60,11 +60,10 @@ fn clear(l: Line, lines: [Line; MAX_LINES], n: usize, from: usize) -> bool
         if n <= j {
             return true;
         }
-        if apart(l, lines[j]) {
-            j += 1;
-        } else {
+        if !apart(l, lines[j]) {
             return false;
         }
+        j += 1;
     }
     true
 }
@@ -79,15 +78,13 @@ pub fn good(lines: [Line; MAX_LINES], n: usize) -> bool
             return true;
         }
         let l = lines[i];
-        if bounded(l) {
-            if clear(l, lines, n, i + 1) {
-                i += 1;
-            } else {
-                return false;
-            }
-        } else {
+        if !bounded(l) {
             return false;
         }
+        if !clear(l, lines, n, i + 1) {
+            return false;
+        }
+        i += 1;
     }
     true
 }

@@ -52,11 +52,10 @@ fn skip(s: &[u8], at: usize) -> usize
 {
     let mut i = at;
     while i < s.len() {
-        if is_blank(s[i]) {
-            i += 1;
-        } else {
+        if !is_blank(s[i]) {
             return i;
         }
+        i += 1;
     }
     i
 }
