@@ -1,13 +1,13 @@
 -- The bits of a number: what the operations on words do to each bit, and a number made of given bits. It knows no set.
 use mathlib.Core.Path.{_≡_, refl, sym, ap, _∙_}
-use mathlib.Core.Bool.{Bool, true, false, cond, not, _&&_}
-use Prim.Native.Nat.{ℕ, zero, suc, _+_, _*_, _-_, _/_, _%_, _^_, _≤_, _<_, min}
-use native.Mathlib.Nat.{div-eq-of-lt, pow-suc}
+use mathlib.Core.Bool.{Bool, true, false, cond, _&&_}
+use Prim.Native.Nat.{ℕ, zero, suc, _+_, _*_, _/_, _%_, _^_, _≤_, _<_, min}
+use native.Mathlib.Nat.{pow-suc}
 use native.Mathlib.Numerals.{one-add}
 use native.Mathlib.Omega.{arith}
-use lib.Dec.{eqb, eqb·zero-suc, eqb·suc-zero, eqb·suc-suc}
+use lib.Dec.{eqb}
 use lib.Bits.{bitAnd, and-step, and-shr, and-mask}
-use lib.Pow.{pow-pos, shr-shr}
+use lib.Pow.{shr-shr}
 use borrow.Author.Tests.{eqb-true}
 use Rattle.capability.specs.Sets.{powersBelow}
 
@@ -37,28 +37,6 @@ pub set-and : (a b n : ℕ) → isSet (bitAnd a b) n ≡ (isSet a n && isSet b n
 set-and a b n =
     let e : bitAnd a b / 2 ^ n % 2 ≡ min (a / 2 ^ n % 2) (b / 2 ^ n % 2) = rw (and-shr a b n, and-step (a / 2 ^ n) (b / 2 ^ n)) (omega arith) in
     rw e (set-both (a / 2 ^ n % 2) (b / 2 ^ n % 2) (omega arith) (omega arith))
-
-pub set-power : (n k : ℕ) → isSet (2 ^ n) k ≡ eqb k n
-set-power zero zero = refl
-set-power zero (suc k) = set-next 1 k ∙ rw (div-eq-of-lt {n = 0} {m = 2 ^ k} (pow-pos k)) (sym (eqb·suc-zero k))
-set-power (suc n) zero = let e = pow-suc 2 n in let z : 2 ^ suc n / 1 % 2 ≡ 0 = omega arith in rw z (sym (eqb·zero-suc n))
-set-power (suc n) (suc k) =
-    let e = pow-suc 2 n in
-    let z : 2 ^ suc n / 2 ≡ 2 ^ n = omega arith in
-    set-next (2 ^ suc n) k ∙ rw (z, eqb·suc-suc k n) (set-power n k)
-
-set-flip : (x y : ℕ) → x < 2 → y ≡ 1 - x → eqb y 1 ≡ not (eqb x 1)
-set-flip zero y h e = rw e
-set-flip (suc zero) y h e = rw e
-set-flip (suc (suc x)) y h e = absurd (omega arith)
-
-pub set-not : (k w x : ℕ) → x < 2 ^ w → k < w → isSet ((2 ^ w - 1) - x) k ≡ not (isSet x k)
-set-not k zero x h p = absurd (omega arith)
-set-not zero (suc w) x h p = let e = pow-suc 2 w in set-flip (x / 1 % 2) (((2 ^ suc w - 1) - x) / 1 % 2) (omega arith) (omega arith)
-set-not (suc k) (suc w) x h p =
-    let e = pow-suc 2 w in
-    let z : ((2 ^ suc w - 1) - x) / 2 ≡ (2 ^ w - 1) - x / 2 = omega arith in
-    set-next ((2 ^ suc w - 1) - x) k ∙ rw z (set-not k w (x / 2) (omega arith) (omega arith)) ∙ ap not (sym (set-next x k))
 
 -- Numbers by their bits.
 odd-same : (x y : ℕ) → x < 2 → y < 2 → eqb x 1 ≡ eqb y 1 → x ≡ y

@@ -6,7 +6,7 @@ use Prim.Native.Nat.{ℕ, zero, suc, _^_, _≤_, _<_}
 use native.Mathlib.Omega.{arith}
 use lib.Dec.{eqb, ltb, leb}
 use borrow.Author.Tests.{eqb-true, eqb-false, lt-ltb, le-ltb, ltb-false, ltb-true, lt-leb}
-use Rattle.capability.specs.Sets.{holds, fullSet, emptySet, allBelow, isWithin, powersBelow, collect, loweredTo, loweredBy}
+use Rattle.capability.specs.Sets.{holds, fullSet, emptySet, allBelow, isWithin, powersBelow, collect, loweredTo}
 use Rattle.prelude.proofs.Tests.{by-test, test-same, and-left, and-right, and-implied, or-use, or-make}
 use Rattle.capability.proofs.Bits.{isSet, bits-same, powers-set, powers-small}
 
@@ -123,15 +123,3 @@ pub lowered-all : (a b : ℕ) → isWithin b a ≡ true → b < 2 ^ 64 → lower
 lowered-all a b t small =
     holds-same (loweredTo a b) b (lowered-small a b) small
     (λ n l. lowered-holds a b n ∙ and-implied (holds a n) (holds b n) (within-each b a .0 t n))
-
--- A set without one capability.
-pub without-small : (a n : ℕ) → loweredBy a n < 2 ^ 64
-unfolding loweredBy
-without-small a n = collect-small (λ k. holds a k && not (eqb k n))
-
-pub without-holds : (a n k : ℕ) → holds (loweredBy a n) k ≡ (holds a k && not (eqb k n))
-unfolding loweredBy
-without-holds a n k = collect-part a (λ k. not (eqb k n)) k
-
-pub without-within : (a n : ℕ) → isWithin (loweredBy a n) a ≡ true
-without-within a n = within-each (loweredBy a n) a .1 (λ k h. and-left (holds a k) (not (eqb k n)) (sym (without-holds a n k) ∙ h))

@@ -1,17 +1,16 @@
 -- The operations of the code on words compute the definitions of sets.
-use mathlib.Core.Path.{_≡_, sym, ap, _∙_}
-use mathlib.Core.Bool.{Bool, true, false, not, _&&_, and-true, and-comm}
-use Prim.Native.Nat.{ℕ, _*_, _-_, _/_, _%_, _^_, _≤_, _<_}
+use mathlib.Core.Path.{_≡_, sym, _∙_}
+use mathlib.Core.Bool.{true, false, _&&_, and-comm}
+use Prim.Native.Nat.{ℕ, _/_, _^_, _≤_, _<_}
 use native.Mathlib.Omega.{arith}
 use lib.Dec.{eqb}
 use lib.Bits.{bitAnd, and-le-l}
-use lib.Pow.{pow-lt, shl-exact}
 use borrow.Author.Needs.{needs}
-use borrow.Author.Tests.{eqb-true, eq-eqb, ne-eqb}
-use Rattle.capability.specs.Sets.{holds, isWithin, loweredTo, loweredBy}
+use borrow.Author.Tests.{eqb-true, eq-eqb}
+use Rattle.capability.specs.Sets.{holds, isWithin, loweredTo}
 use Rattle.capability.specs.declared.CapabilitySet.{CapabilitySet}
 use Rattle.prelude.proofs.Tests.{test-same, and-right, and-implied}
-use Rattle.capability.proofs.Bits.{set-shift, set-and, set-power, set-not}
+use Rattle.capability.proofs.Bits.{set-shift, set-and}
 use Rattle.capability.proofs.Sets.{holds-low, holds-high, holds-below, holds-same, collect-same, within-each}
 
 -- `(bits >> n) & 1 == 1`
@@ -51,29 +50,5 @@ pub lowered-and : (a b : ℕ) → a < 2 ^ 64 → _≡_ {A = CapabilitySet} (reco
 unfolding loweredTo
 lowered-and a b h = set-of (collect-same (bitAnd a b) (λ n. holds a n && holds b n) (and-small a b h) (and-holds a b))
 
--- `a & !(1 << n)`
-shifted : (n : ℕ) → n < 64 → 1 * 2 ^ n % 18446744073709551616 ≡ 2 ^ n
-shifted n h = shl-exact {a = 1} 1 n 64 (omega arith) (omega arith) ∙ omega arith
-
-mask-holds : (n k : ℕ) → n < 64 → k < 64 → holds (18446744073709551615 - 2 ^ n) k ≡ not (eqb k n)
-mask-holds n k h l = holds-low (18446744073709551615 - 2 ^ n) k l ∙ set-not k 64 (2 ^ n) (pow-lt h) l ∙ ap not (set-power n k)
-
-pub without-low : (a n : ℕ) → a < 2 ^ 64 → n < 64
-    → _≡_ {A = CapabilitySet} (record { bits = bitAnd a (18446744073709551615 - 1 * 2 ^ n % 18446744073709551616) }) (record { bits = loweredBy a n })
-unfolding loweredBy
-without-low a n small h =
-    let mask = 18446744073709551615 - 2 ^ n in
-    set-of
-    (rw (shifted n h)
-    (collect-same (bitAnd a mask) (λ k. holds a k && not (eqb k n)) (and-small a mask small)
-    (λ k l. and-holds a mask k l ∙ ap (λ (t : Bool). holds a k && t) (mask-holds n k h l))))
-
-pub without-high : (a : CapabilitySet) (n : ℕ) → a .bits < 2 ^ 64 → 64 ≤ n → a ≡ record { bits = loweredBy (a .bits) n }
-unfolding loweredBy
-without-high a n small h =
-    set-of
-    (collect-same (a .bits) (λ k. holds (a .bits) k && not (eqb k n)) small
-    (λ k l. rw (ne-eqb k n (omega arith)) (sym (and-true (holds (a .bits) k)))))
-
 -- What answers the needs of the functions.
-pub ruleset words = (has-low, has-high, within-and, lowered-and, without-low, without-high, needs)
+pub ruleset words = (has-low, has-high, within-and, lowered-and, needs)

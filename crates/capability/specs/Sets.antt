@@ -51,7 +51,3 @@ collect p = powersBelow 64 p
 -- The capabilities that are in both: a drop of capabilities, which never adds one.
 unfoldable pub loweredTo : ℕ → ℕ → ℕ
 loweredTo a kept = collect (λ n. holds a n && holds kept n)
-
--- The capabilities of a but n: a drop of one capability.
-unfoldable pub loweredBy : ℕ → ℕ → ℕ
-loweredBy a n = collect (λ k. holds a k && not (eqb k n))

@@ -1,6 +1,6 @@
 // Sets of capabilities: which capabilities a process has, kept as the bits of one word.
 ghost use mathlib.Core.Path.{_≡_};
-ghost use Rattle.capability.specs.Sets.{holds, fullSet, emptySet, isWithin, loweredTo, loweredBy};
+ghost use Rattle.capability.specs.Sets.{holds, isWithin, loweredTo};
 
 // Numbers of capabilities: capabilities(7).
 pub const CAP_SETGID: u32 = 6;
@@ -16,8 +16,10 @@ pub struct CapabilitySet {
 }
 
 impl CapabilitySet {
+    // The full set, capabilities 0 to 36.
     pub const FULL: CapabilitySet = CapabilitySet { bits: 0x1fffffffff };
 
+    // The set with no capability.
     pub const EMPTY: CapabilitySet = CapabilitySet { bits: 0 };
 
     // The set with these bits: capability `n` is bit `n`.
@@ -25,20 +27,6 @@ impl CapabilitySet {
         ensures { λ r. ⌜ r ≡ record { bits = bits } ⌝ }
     {
         CapabilitySet { bits: bits }
-    }
-
-    // The full set, capabilities 0 to 36.
-    pub fn full() -> Self
-        ensures { λ r. ⌜ r ≡ record { bits = fullSet } ⌝ }
-    {
-        CapabilitySet::FULL
-    }
-
-    // The set with no capability.
-    pub fn empty() -> Self
-        ensures { λ r. ⌜ r ≡ record { bits = emptySet } ⌝ }
-    {
-        CapabilitySet::EMPTY
     }
 
     // Whether `capability` is in the set. No set has a capability above 63.
@@ -65,19 +53,6 @@ impl CapabilitySet {
     {
         CapabilitySet {
             bits: self.bits & kept.bits,
-        }
-    }
-
-    // The set without `capability`. A number above 63 leaves it as it is.
-    pub fn without(self, capability: u32) -> Self
-        ensures { λ r. ⌜ r ≡ record { bits = loweredBy (self .bits) capability } ⌝ }
-    {
-        if capability < 64 {
-            CapabilitySet {
-                bits: self.bits & !(1 << capability),
-            }
-        } else {
-            self
         }
     }
 }

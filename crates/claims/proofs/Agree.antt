@@ -16,15 +16,14 @@ use Rattle.records.specs.declared.Namespace.{Namespace}
 use Rattle.records.specs.declared.MapState.{MapState}
 use Rattle.records.specs.declared.MapState.the-variants.{Unwritten, Written}
 use Rattle.records.specs.declared.IdMap.{IdMap}
-use Rattle.records.specs.Records.{mapIn}
-use Rattle.records.specs.Records.{linesOf as mapLinesOf}
+use Rattle.records.specs.Records.{mapIn, linesIf, linesOf}
 use Rattle.tables.specs.declared.find.Found.the-variants.{At}
 use Rattle.tables.specs.Tables.{State, processAt, namespaceAt, putProcess, putNamespace}
 use Rattle.tables.specs.Find.{processNamed}
 use Rattle.prelude.proofs.Tests.{by-test}
 use Rattle.claims.specs.Events.{Event}
-use Rattle.claims.specs.Words.{Held, isProcess, placeOf, orNone, linesOf, heldOf}
-use Rattle.claims.specs.Agreement.{heldIn, writtenIn, stateFor, Agrees, Agreed}
+use Rattle.claims.specs.Words.{Held, isProcess, placeOf, orNone, writtenLines, heldOf}
+use Rattle.claims.specs.Agreement.{ifWritten, heldIn, writtenIn, stateFor, Agrees, Agreed}
 use Rattle.claims.proofs.Stores.{cond-ap, read-process, read-namespace, named}
 
 -- where a test picks between what is equal, it does not matter
@@ -41,7 +40,7 @@ module _ (s : State) (isP isN : ℕ → Bool) (place up level : ℕ → ℕ) (ma
         → ((i : ℕ) → cond (eqb i q) (p .live) (isP (suc i)) ≡ isP′ (suc i))
         → ((i : ℕ) → cond (eqb i q) (p .namespace) (place (suc i)) ≡ place′ (suc i))
         → ((k : Kind) (i : ℕ) → cond (eqb i q) (heldIn k p) (carries k (suc i)) ≡ carries′ k (suc i))
-        → ((i : ℕ) → cond (eqb i q) (p .supplementary .count) (length (carries Group (suc i) .more)) ≡ length (carries′ Group (suc i) .more))
+        → ((i : ℕ) → cond (eqb i q) (p .supplementary .count) (length (carries Group (suc i) .supplementary)) ≡ length (carries′ Group (suc i) .supplementary))
         → Agrees (putProcess s q p) isP′ isN place′ up level maps carries′
     unfolding namespaceAt
     stores-process isP′ place′ carries′ e f g o = record {
@@ -50,7 +49,7 @@ module _ (s : State) (isP isN : ℕ → Bool) (place up level : ℕ → ℕ) (ma
       process-live = λ i. after-process (λ (r : Process). r .live) isP i (a .process-live i) ∙ e i;
       process-place = λ i. after-process (λ (r : Process). r .namespace) place i (a .process-place i) ∙ f i;
       process-ids = λ k i. after-process (heldIn k) (carries k) i (a .process-ids k i) ∙ g k i;
-      process-count = λ i. after-process (λ (r : Process). r .supplementary .count) (λ (j : ℕ). length (carries Group j .more)) i (a .process-count i) ∙ o i;
+      process-count = λ i. after-process (λ (r : Process). r .supplementary .count) (λ (j : ℕ). length (carries Group j .supplementary)) i (a .process-count i) ∙ o i;
       namespace-live = a .namespace-live;
       namespace-parent = a .namespace-parent;
       namespace-level = a .namespace-level;
@@ -66,7 +65,7 @@ module _ (s : State) (isP isN : ℕ → Bool) (place up level : ℕ → ℕ) (ma
         (λ i. picked-same (λ (j : ℕ). isP (suc j)) i q (p .live) (e ∙ a .process-live q))
         (λ i. picked-same (λ (j : ℕ). place (suc j)) i q (p .namespace) (f ∙ a .process-place q))
         (λ k i. picked-same (λ (j : ℕ). carries k (suc j)) i q (heldIn k p) (g k ∙ a .process-ids k q))
-        (λ i. picked-same (λ (j : ℕ). length (carries Group (suc j) .more)) i q (p .supplementary .count) (o ∙ a .process-count q))
+        (λ i. picked-same (λ (j : ℕ). length (carries Group (suc j) .supplementary)) i q (p .supplementary .count) (o ∙ a .process-count q))
 
   -- namespace n is stored at place q
   module _ (q : ℕ) (n : Namespace) (h : q < length (s .namespaces)) where
@@ -113,14 +112,14 @@ module _ (s : State) (isP isN : ℕ → Bool) (place up level : ℕ → ℕ) (ma
   }
 
 -- ---- a map's record has the lines of its history
-lines-of : (m : IdMap) → orNone (writtenIn m) ≡ mapLinesOf m
+lines-of : (m : IdMap) → orNone (writtenIn m) ≡ linesOf m
 lines-of m = by-state (m .state) (m .lines)
   where
-    by-state : (t : MapState) (ls : List Line) → orNone (Rattle.claims.specs.Agreement.linesIf t ls) ≡ Rattle.records.specs.Records.linesIf t ls
+    by-state : (t : MapState) (ls : List Line) → orNone (ifWritten t ls) ≡ linesIf t ls
     by-state Unwritten ls = refl
     by-state (Written n) ls = refl
 
-pub lines-agree : (s : State) (h : List Event) → Agreed s h → (k : Kind) (n : ℕ) → mapLinesOf (mapIn k (namespaceAt s n)) ≡ linesOf k h n
+pub lines-agree : (s : State) (h : List Event) → Agreed s h → (k : Kind) (n : ℕ) → linesOf (mapIn k (namespaceAt s n)) ≡ writtenLines k h n
 lines-agree s h a k n = sym (lines-of (mapIn k (namespaceAt s n))) ∙ ap orNone (a .namespace-map k n)
 
 -- ---- the caller of a call
@@ -137,5 +136,5 @@ module _ (s : State) (h : List Event) (a : Agreed s h) (c i : ℕ) (e : processN
   pub caller-ids : (k : Kind) → heldIn k (processAt s i) ≡ heldOf k h c
   caller-ids k = rw caller-is (a .process-ids k i)
 
-  pub caller-count : processAt s i .supplementary .count ≡ length (heldOf Group h c .more)
+  pub caller-count : processAt s i .supplementary .count ≡ length (heldOf Group h c .supplementary)
   caller-count = rw caller-is (a .process-count i)

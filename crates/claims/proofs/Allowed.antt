@@ -19,10 +19,11 @@ use Rattle.records.specs.declared.Kind.the-variants.{Group}
 use Rattle.records.specs.declared.Ids.{Ids}
 use Rattle.tables.specs.Tables.{fixedLine}
 use Rattle.prelude.proofs.Tests.{by-test}
+use Rattle.prelude.proofs.Made.{some-none}
 use Rattle.claims.specs.Events.{Event, other, forked, cloned, unshared, joined, mapped, changed, grouped}
-use Rattle.claims.specs.Words.{isProcess, isNamespace, placeOf, parentOf, levelOf, mapOf, orNone, linesOf, standsFor, chosenOf, heldOf}
+use Rattle.claims.specs.Words.{isProcess, isNamespace, placeOf, parentOf, levelOf, writtenOf, orNone, writtenLines, standsFor, chosenOf, heldOf}
 use Rattle.claims.specs.TopLevel.{IsUnder, OnParentSide}
-use Rattle.claims.proofs.Sound.{Sound, some-none, moves, begins, makes, writes}
+use Rattle.claims.proofs.Sound.{Sound, moves, begins, makes, writes}
 
 -- caller c got child q
 pub record NewProcess (h : List Event) (c q : ℕ) : Type 0 where
@@ -45,9 +46,9 @@ pub record Joins (h : List Event) (c n : ℕ) : Type 0 where
 -- a map that was not written is, below one that was and that has a line for each ID of its parent side
 pub record Maps (h : List Event) (k : Kind) (q : ℕ) (text : List ℕ) : Type 0 where
   pub process : isProcess h q ≡ true
-  pub unwritten : mapOf k h (placeOf h q) ≡ none
-  pub parent-written : mapOf k h (parentOf h (placeOf h q)) ≡ none → ⊥
-  pub covered : (z : ℕ) → OnParentSide (orNone (mapLines text)) z → HasLine (linesOf k h (parentOf h (placeOf h q))) z
+  pub unwritten : writtenOf k h (placeOf h q) ≡ none
+  pub parent-written : writtenOf k h (parentOf h (placeOf h q)) ≡ none → ⊥
+  pub covered : (z : ℕ) → OnParentSide (orNone (mapLines text)) z → HasLine (writtenLines k h (parentOf h (placeOf h q))) z
 
 -- an ID that was given is left as it is, or stands for one
 pub record Chosen (h : List Event) (k : Kind) (n x old : ℕ) : Type 0 where
@@ -87,7 +88,7 @@ Valid [] = Unit {0}
 Valid (e ∷ h) = Allowed h e × Valid h
 
 abbrev pub SoundAt : List Event → Type 0
-SoundAt h = Sound (isProcess h) (isNamespace h) (placeOf h) (parentOf h) (levelOf h) (λ (k : Kind). mapOf k h)
+SoundAt h = Sound (isProcess h) (isNamespace h) (placeOf h) (parentOf h) (levelOf h) (λ (k : Kind). writtenOf k h)
 
 -- each ID on the parent side of namespace 0's line is in it
 root-covered : (z : ℕ) → OnParentSide (fixedLine ∷ []) z → HasLine (fixedLine ∷ []) z
@@ -98,7 +99,7 @@ root-covered z (x, p) = in-first (p .which) (p .offset) (p .in-range) (p .below-
     in-first (suc i) o r b e = absurd (omega arith)
 
 sound-start : SoundAt []
-unfolding isProcess isNamespace placeOf parentOf levelOf mapOf goodOf boundedOf fitsOf allApart
+unfolding isProcess isNamespace placeOf parentOf levelOf writtenOf goodOf boundedOf fitsOf allApart
 sound-start = record {
   no-zero = refl;
   root = refl;
@@ -115,7 +116,7 @@ sound-start = record {
 }
 
 sound-step : (e : Event) (h : List Event) → Allowed h e → SoundAt h → SoundAt (e ∷ h)
-unfolding isProcess isNamespace placeOf parentOf levelOf mapOf
+unfolding isProcess isNamespace placeOf parentOf levelOf writtenOf
 sound-step other h a s = s
 sound-step (forked c q) h a s = begins _ _ _ _ _ _ s q (placeOf h c) (a .named) (s .placed c (a .caller))
 sound-step (cloned c q n) h a s =

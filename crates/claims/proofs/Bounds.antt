@@ -28,7 +28,7 @@ use Rattle.calls.specs.Calls.{Request}
 use Rattle.prelude.proofs.Tests.{by-test, and-left, and-right, and-i}
 use Rattle.claims.specs.Translation.{outBy, backBy, byLevels}
 use Rattle.claims.specs.Events.{Event}
-use Rattle.claims.specs.Words.{Held, isNamespace, parentOf, levelOf, mapOf, orNone, linesOf, held}
+use Rattle.claims.specs.Words.{Held, isNamespace, parentOf, levelOf, writtenOf, orNone, writtenLines, held}
 use Rattle.claims.specs.TopLevel.{OnParentSide, Has}
 use Rattle.claims.specs.History.{run, history, events, AllFit}
 use Rattle.claims.specs.Bounds.{HoldsCapability, member, inherited, owner, linesAt, Bounds}
@@ -155,11 +155,11 @@ module _ (s : State) (h : List Event) (a : Agreed s h) (d : SoundAt h) where
   counts (some ls) c b e = let f : length ls ≡ c = cc in (omega (arith, b .0), omega (arith, b .1), f)
 
   line-counts : (k : Kind) (n c : ℕ) → mapIn k (namespaceAt s n) .state ≡ Written c → (1 ≤ c) × (c ≤ maxLines) × (length (linesAt s k n) ≡ c)
-  line-counts k n c e = rw (lines-agree s h a k n) (counts (mapOf k h n) c (d .counted k n) (sym (a .namespace-state k n) ∙ e))
+  line-counts k n c e = rw (lines-agree s h a k n) (counts (writtenOf k h n) c (d .counted k n) (sym (a .namespace-state k n) ∙ e))
 
   has-line : (k : Kind) (n z : ℕ) → OnParentSide (linesAt s k n) z → HasLine (linesAt s k (namespaceAt s n .parent)) z
   has-line k n z o =
-      subst (λ (ls : List Line). HasLine ls z) (sym (lines-agree s h a k (namespaceAt s n .parent) ∙ ap (linesOf k h) (a .namespace-parent n)))
+      subst (λ (ls : List Line). HasLine ls z) (sym (lines-agree s h a k (namespaceAt s n .parent) ∙ ap (writtenLines k h) (a .namespace-parent n)))
       (d .covered k n z (subst (λ (ls : List Line). OnParentSide ls z) (lines-agree s h a k n) o))
 
   unwritten-none : (o : Option (List Line)) → stateFor o ≡ Unwritten → o ≡ none
@@ -167,12 +167,12 @@ module _ (s : State) (h : List Event) (a : Agreed s h) (d : SoundAt h) where
   unwritten-none (some ls) e = absurd (let z : _≡_ {A = ℕ} 0 1 = cc in omega arith)
 
   -- namespace 0's map is written, and through no lines nothing is found
-  translates-nothing : (k : Kind) (n x : ℕ) → mapOf k h n ≡ none → (byLevels s .out k n x ≡ Unmapped) × (byLevels s .back k n x ≡ Unmapped)
+  translates-nothing : (k : Kind) (n x : ℕ) → writtenOf k h n ≡ none → (byLevels s .out k n x ≡ Unmapped) × (byLevels s .back k n x ≡ Unmapped)
   translates-nothing k n x e =
-      let z : n ≡ 0 → ⊥ = λ q. d .root-written k (ap (mapOf k h) (sym q) ∙ e) in
+      let z : n ≡ 0 → ⊥ = λ q. d .root-written k (ap (writtenOf k h) (sym q) ∙ e) in
       let u = levels-history s h a d in (
-        (λ i. u i .out k n x) ∙ nothing-out (parentOf h) (linesOf k h) (levelOf h n) n x z (ap orNone e),
-        (λ i. u i .back k n x) ∙ nothing-back (parentOf h) (linesOf k h) (levelOf h n) n x z (ap orNone e),
+        (λ i. u i .out k n x) ∙ nothing-out (parentOf h) (writtenLines k h) (levelOf h n) n x z (ap orNone e),
+        (λ i. u i .back k n x) ∙ nothing-back (parentOf h) (writtenLines k h) (levelOf h n) n x z (ap orNone e),
       )
 
 pub bounds : (rs : List Request) → AllFit rs → Bounds rs
@@ -195,7 +195,7 @@ bounds rs f =
       carried-ids = λ k i y q. held-small k h (r .valid) (suc i) y (subst (λ (m : Held). Has y (held m)) (a .process-ids k i) q);
       group-count = λ i. rw (a .process-count i) (few-groups h (r .valid) (suc i));
       line-count = line-counts s h a d;
-      lines-good = λ k n. rw (lines-agree s h a k n) (good-means (linesOf k h n) .0 (d .good k n));
+      lines-good = λ k n. rw (lines-agree s h a k n) (good-means (writtenLines k h n) .0 (d .good k n));
       covered = has-line s h a d;
-      unwritten = λ k n x e. translates-nothing s h a d k n x (unwritten-none s h a d (mapOf k h n) (sym (a .namespace-state k n) ∙ e));
+      unwritten = λ k n x e. translates-nothing s h a d k n x (unwritten-none s h a d (writtenOf k h n) (sym (a .namespace-state k n) ∙ e));
     }

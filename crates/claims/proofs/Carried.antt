@@ -18,8 +18,8 @@ use Rattle.records.specs.declared.Kind.the-variants.{User, Group}
 use Rattle.records.specs.declared.Ids.{Ids}
 use Rattle.prelude.proofs.Tests.{by-test, cond-elim, and-left, and-right}
 use Rattle.claims.specs.Events.{Event, other, forked, cloned, unshared, joined, mapped, changed, grouped}
-use Rattle.claims.specs.Words.{Held, isProcess, isNamespace, placeOf, parentOf, levelOf, mapOf, linesOf, standsFor, chosenOf, changedIds, held, heldOf, sameKind}
-use Rattle.claims.specs.Translation.{Out, top, through, Under, here, below}
+use Rattle.claims.specs.Words.{Held, isProcess, isNamespace, placeOf, parentOf, levelOf, writtenOf, writtenLines, standsFor, chosenOf, changedIds, held, heldOf, sameKind}
+use Rattle.claims.specs.Translation.{GoesOut, top, through, Under, here, deeper}
 use Rattle.claims.specs.TopLevel.{TopLevel, IsUnder, Stands, Has, Descends, Entered}
 use Rattle.claims.proofs.Levels.{out-is, passes}
 use Rattle.claims.proofs.Allowed.{Allowed, Valid, SoundAt, sound, Chosen, AllStand, Changes, Groups}
@@ -73,16 +73,16 @@ module _ (k : Kind) (e : Event) (h : List Event) (a : Allowed h e) (s : SoundAt 
 -- what stands above a namespace is one
 above : (h : List Event) → SoundAt h → (b n : ℕ) → isNamespace h n ≡ true → IsUnder h b n → isNamespace h b ≡ true
 above h s b n t (here f) = sym (ap (isNamespace h) f) ∙ t
-above h s b n t (below f u) = above h s b (parentOf h n) (s .parented n t) u
+above h s b n t (deeper f u) = above h s b (parentOf h n) (s .parented n t) u
 
 -- whether a namespace is under another can be told
 not-root : (up : ℕ → ℕ) (b n : ℕ) → (n ≡ b → ⊥) → n ≡ 0 → Under up b n → ⊥
 not-root up b n f z (here e) = f e
-not-root up b n f z (below e u) = e z
+not-root up b n f z (deeper e u) = e z
 
-not-below : (up : ℕ → ℕ) (b n : ℕ) → (n ≡ b → ⊥) → (Under up b (up n) → ⊥) → Under up b n → ⊥
-not-below up b n f g (here e) = f e
-not-below up b n f g (below e u) = g u
+not-deeper : (up : ℕ → ℕ) (b n : ℕ) → (n ≡ b → ⊥) → (Under up b (up n) → ⊥) → Under up b n → ⊥
+not-deeper up b n f g (here e) = f e
+not-deeper up b n f g (deeper e u) = g u
 
 tell : (h : List Event) → SoundAt h → (b l n : ℕ) → levelOf h n ≤ l → isNamespace h n ≡ true → IsUnder h b n ⊎ (IsUnder h b n → ⊥)
 tell h s b zero n d t =
@@ -100,14 +100,14 @@ tell h s b (suc l) n d t =
     (λ z. inr (not-root (parentOf h) b n (eqb-false n b r) (eqb-true n 0 z)))
     (λ z.
     let e = s .levelled n t (eqb-false n 0 z) in
-    ⊎-elim (λ u. inl (below (eqb-false n 0 z) u)) (λ u. inr (not-below (parentOf h) b n (eqb-false n b r) u))
+    ⊎-elim (λ u. inl (deeper (eqb-false n 0 z) u)) (λ u. inr (not-deeper (parentOf h) b n (eqb-false n b r) u))
     (tell h s b l (parentOf h n) (omega arith) (s .parented n t))))
 
 -- ---- IDs taken in a namespace under b are mapped in b
 module _ (k : Kind) (h : List Event) (s : SoundAt h) (b n : ℕ) (u : IsUnder h b n) where
   taken : (x y : ℕ) → x < 2 ^ 32 → standsFor k h n x ≡ Id y → Stands k h b y
   taken x y small e =
-      passes (parentOf h) (linesOf k h) (s .good k) b n x y u (out-is (parentOf h) (linesOf k h) (s .good k) (levelOf h n) n x y small e)
+      passes (parentOf h) (writtenLines k h) (s .good k) b n x y u (out-is (parentOf h) (writtenLines k h) (s .good k) (levelOf h n) n x y small e)
 
   -- one of the three of an ID change: the old one, or one that is mapped
   choice : (x old y : ℕ) → Chosen h k n x old → y ≡ orNoId (chosenOf k h n x old) → (y ≡ old) ⊎ Stands k h b y
@@ -142,11 +142,11 @@ module _ (k : Kind) (e : Event) (h : List Event) (a : Allowed h e) (s : SoundAt 
   -- a new namespace n under that of process c: b is n, or c was under b
   inside-new : (c n b : ℕ) → isProcess h c ≡ true → parentOf (e ∷ h) n ≡ placeOf h c → (n ≡ b → ⊥) → IsUnder (e ∷ h) b n → IsUnder h b (placeOf h c)
   inside-new c n b t f g (here r) = absurd (g r)
-  inside-new c n b t f g (below r u) = under-before e h a s b (placeOf h c) (s .placed c t) (rw f at u)
+  inside-new c n b t f g (deeper r u) = under-before e h a s b (placeOf h c) (s .placed c t) (rw f at u)
 
 -- what an ID change leaves is what was there, or mapped in b
 after-change : (k : Kind) (h : List Event) → SoundAt h → (b c : ℕ) (new : Ids) → Changes h k c new → IsUnder h b (placeOf h c) → (y : ℕ)
-    → Has y (held (record { three = changedIds k h (placeOf h c) new (heldOf k h c .three); more = heldOf k h c .more }))
+    → Has y (held (record { three = changedIds k h (placeOf h c) new (heldOf k h c .three); supplementary = heldOf k h c .supplementary }))
     → Has y (held (heldOf k h c)) ⊎ Stands k h b y
 unfolding Has
 after-change k h s b c new a u y (inl i) =
@@ -159,7 +159,7 @@ after-change k h s b c new a u y (inr (inr (inr i))) = inl (inr (inr (inr i)))
 
 -- what setgroups leaves alike
 after-groups : (h : List Event) → SoundAt h → (b c : ℕ) (list : List ℕ) → Groups h c list → IsUnder h b (placeOf h c) → (y : ℕ)
-    → Has y (held (record { three = heldOf Group h c .three; more = map (λ (x : ℕ). orNoId (standsFor Group h (placeOf h c) x)) list }))
+    → Has y (held (record { three = heldOf Group h c .three; supplementary = map (λ (x : ℕ). orNoId (standsFor Group h (placeOf h c) x)) list }))
     → Has y (held (heldOf Group h c)) ⊎ Stands Group h b y
 unfolding Has
 after-groups h s b c list a u y (inl i) = inl (inl i)
@@ -168,7 +168,7 @@ after-groups h s b c list a u y (inr (inr (inl i))) = inl (inr (inr (inl i)))
 after-groups h s b c list a u y (inr (inr (inr i))) = inr (all-taken h s b (placeOf h c) y u list (a .each) i)
 
 grouped-step : (k : Kind) (c : ℕ) (list : List ℕ) (h : List Event) → Groups h c list → SoundAt h → CarriedAt k h → CarriedAt k (grouped c list ∷ h)
-unfolding isProcess isNamespace placeOf parentOf mapOf heldOf
+unfolding isProcess isNamespace placeOf parentOf writtenOf heldOf
 grouped-step User c list h a s ih p b y t l u i = kept User (grouped c list) h a s p b y (ih p b y t l u i)
 grouped-step Group c list h a s ih p b y t l u i =
     by-test (eqb p c)
@@ -181,7 +181,7 @@ grouped-step Group c list h a s ih p b y t l u i =
     (λ r. kept Group (grouped c list) h a s p b y (ih p b y t l u (rw r at i)))
 
 carried-step : (k : Kind) (e : Event) (h : List Event) → Allowed h e → SoundAt h → CarriedAt k h → CarriedAt k (e ∷ h)
-unfolding isProcess isNamespace placeOf parentOf mapOf heldOf Descends Entered Has
+unfolding isProcess isNamespace placeOf parentOf writtenOf heldOf Descends Entered Has
 carried-step k other h a s ih p b y t l u i = ih p b y t l u i
 carried-step k (forked c q) h a s ih p b y t l u i =
     by-test (eqb p q)
@@ -238,7 +238,7 @@ carried-step k (grouped c list) h a s ih p b y t l u i = grouped-step k c list h
 carried-start : (k : Kind) → CarriedAt k []
 unfolding placeOf
 carried-start k p b y t (n, f, r) (here e) i = absurd (f (sym e))
-carried-start k p b y t (n, f, r) (below e u) i = absurd (e refl)
+carried-start k p b y t (n, f, r) (deeper e u) i = absurd (e refl)
 
 pub carried : (k : Kind) (h : List Event) → Valid h → CarriedAt k h
 unfolding Valid
@@ -246,7 +246,7 @@ carried k [] v p b y t l u i = carried-start k p b y t l u i
 carried k (e ∷ h) v p b y t l u i = carried-step k e h (v .0) (sound h (v .1)) (carried k h (v .1)) p b y t l u i
 
 -- ---- what is carried are kernel IDs, and at most 16 groups
-stands-small : (up : ℕ → ℕ) (lines : ℕ → List Line) (n x y : ℕ) → Out up lines n x y → y < noId
+stands-small : (up : ℕ → ℕ) (lines : ℕ → List Line) (n x y : ℕ) → GoesOut up lines n x y → y < noId
 stands-small up lines n x y (top e f b) = omega arith
 stands-small up lines n x y (through f z p o) = stands-small up lines (up n) z y o
 
@@ -271,25 +271,25 @@ held-small k (mapped j q text ∷ h) v p y i = held-small k h (v .1) p y i
 held-small k (changed j c new ∷ h) v p y i =
     by-test (sameKind k j && eqb p c)
     (λ t.
-    ⊎-elim (held-small k h (v .1) c y) (λ f. stands-small (parentOf h) (linesOf k h) (placeOf h c) (f .0) y (f .1))
+    ⊎-elim (held-small k h (v .1) c y) (λ f. stands-small (parentOf h) (writtenLines k h) (placeOf h c) (f .0) y (f .1))
     (after-change k h (sound h (v .1)) (placeOf h c) c new (subst (λ (x : Kind). Changes h x c new) (sym (same-kind k j (and-left (sameKind k j) (eqb p c) t))) (v .0)) (here refl) y (rw t at i)))
     (λ t. held-small k h (v .1) p y (rw t at i))
 held-small User (grouped c list ∷ h) v p y i = held-small User h (v .1) p y i
 held-small Group (grouped c list ∷ h) v p y i =
     by-test (eqb p c)
     (λ t.
-    ⊎-elim (held-small Group h (v .1) c y) (λ f. stands-small (parentOf h) (linesOf Group h) (placeOf h c) (f .0) y (f .1))
+    ⊎-elim (held-small Group h (v .1) c y) (λ f. stands-small (parentOf h) (writtenLines Group h) (placeOf h c) (f .0) y (f .1))
     (after-groups h (sound h (v .1)) (placeOf h c) c list (v .0) (here refl) y (rw t at i)))
     (λ t. held-small Group h (v .1) p y (rw t at i))
 
-pub few-groups : (h : List Event) → Valid h → (p : ℕ) → length (heldOf Group h p .more) ≤ 16
+pub few-groups : (h : List Event) → Valid h → (p : ℕ) → length (heldOf Group h p .supplementary) ≤ 16
 unfolding Valid heldOf
 few-groups [] v p = omega arith
 few-groups (other ∷ h) v p = few-groups h (v .1) p
-few-groups (forked c q ∷ h) v p = cond-elim (λ (m : Held). length (m .more) ≤ 16) (eqb p q) (few-groups h (v .1) c) (few-groups h (v .1) p)
-few-groups (cloned c q n ∷ h) v p = cond-elim (λ (m : Held). length (m .more) ≤ 16) (eqb p q) (few-groups h (v .1) c) (few-groups h (v .1) p)
+few-groups (forked c q ∷ h) v p = cond-elim (λ (m : Held). length (m .supplementary) ≤ 16) (eqb p q) (few-groups h (v .1) c) (few-groups h (v .1) p)
+few-groups (cloned c q n ∷ h) v p = cond-elim (λ (m : Held). length (m .supplementary) ≤ 16) (eqb p q) (few-groups h (v .1) c) (few-groups h (v .1) p)
 few-groups (unshared c n ∷ h) v p = few-groups h (v .1) p
 few-groups (joined c n ∷ h) v p = few-groups h (v .1) p
 few-groups (mapped k q text ∷ h) v p = few-groups h (v .1) p
-few-groups (changed k c new ∷ h) v p = cond-elim (λ (m : Held). length (m .more) ≤ 16) (sameKind Group k && eqb p c) (few-groups h (v .1) c) (few-groups h (v .1) p)
-few-groups (grouped c list ∷ h) v p = cond-elim (λ (m : Held). length (m .more) ≤ 16) (eqb p c) (simp length-map (v .0 .few)) (few-groups h (v .1) p)
+few-groups (changed k c new ∷ h) v p = cond-elim (λ (m : Held). length (m .supplementary) ≤ 16) (sameKind Group k && eqb p c) (few-groups h (v .1) c) (few-groups h (v .1) p)
+few-groups (grouped c list ∷ h) v p = cond-elim (λ (m : Held). length (m .supplementary) ≤ 16) (eqb p c) (simp length-map (v .0 .few)) (few-groups h (v .1) p)

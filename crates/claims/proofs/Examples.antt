@@ -6,11 +6,12 @@ use mathlib.Core.Logic.{inl, inr}
 use native.Mathlib.Omega.{arith}
 use Rattle.records.specs.declared.Kind.the-variants.{User}
 use Rattle.prelude.specs.Parts.{fitsAt, putAt}
+use Rattle.prelude.specs.Lists.{consOf, allOf}
 use Rattle.capability.specs.Sets.{holds}
 use Rattle.idmap.specs.Lookup.{out, reachOf}
 use Rattle.idmap.specs.Good.{fitsOf, boundedOf, apartSide, apartOf, allApart, goodOf}
 use Rattle.idmap.specs.Cover.{coveredIn, coveredOf}
-use Rattle.idmap.specs.Text.{pieces, filled, consOf, allOf, allDigits, decimal, numberOf, numbersOf, threeOf, lineOf, textLines, checked, mapLines}
+use Rattle.idmap.specs.Text.{pieces, filled, allDigits, decimal, decimalOf, numbersOf, threeOf, lineOf, textLines, checked, mapLines}
 use Rattle.idmap.specs.Text.{padded}
 use Rattle.idmap.specs.Show.{shown, numberText, lineColumns, lineText, linesText}
 use Rattle.tables.specs.Tables.{processAt, namespaceAt, initialTables}
@@ -25,8 +26,8 @@ use Rattle.calls.specs.Calls.{answerBy}
 use Rattle.calls.specs.Calls.{Request}
 use Rattle.calls.specs.declared.Call.the-variants.{Clone, Setns}
 use Rattle.claims.specs.Events.{Event, forked, cloned, unshared, joined, mapped, changed}
-use Rattle.claims.specs.Words.{isNamespace, placeOf, parentOf, levelOf, mapOf, linesOf, heldOf, held}
-use Rattle.claims.specs.Translation.{Pairs, top, through, Under, here, byLevels, outBy, backBy}
+use Rattle.claims.specs.Words.{isNamespace, placeOf, parentOf, levelOf, writtenOf, writtenLines, heldOf, held}
+use Rattle.claims.specs.Translation.{Pairs, top, through, Under, here, byLevels, outBy, backBy, deeper}
 use Rattle.claims.specs.TopLevel.{TopLevel, Stands, Has, Descends, Entered}
 use Rattle.claims.specs.History.{runFrom, historyFrom, history, events}
 use Rattle.claims.specs.Scenarios.{plain, fork, unshare, setIds, writeMap, bytesOf, line}
@@ -51,7 +52,7 @@ overlapping-events = mapped User 3 (bytesOf "0 100005 10") ∷ mapped User 2 (by
 -- the histories say what happened, the newest first
 happened-so : (events (history entering) ≡ entered-events) × (events (history overlapping) ≡ overlapping-events)
 unfolding fitsAt putAt holds out reachOf fitsOf boundedOf apartSide apartOf allApart goodOf coveredIn coveredOf
-    pieces filled consOf allOf allDigits decimal numberOf numbersOf threeOf lineOf textLines checked mapLines padded
+    pieces filled consOf allOf allDigits decimal decimalOf numbersOf threeOf lineOf textLines checked mapLines padded
     shown numberText lineColumns lineText linesText
     processAt namespaceAt initialTables processNamed namespaceNamed freeFrom freeProcessPlace freeNamespacePlace
     heightOf byLevels outBy backBy ownedBy holdsIn capableIn
@@ -68,12 +69,12 @@ entering-top = (refl, (λ e. omega arith), refl)
 
 -- process 2 carries 1000, which is not mapped there: it carried it in when it made the namespace
 carries-1000 : Has 1000 (held (heldOf User entered-events 2))
-unfolding heldOf placeOf Has mapOf parentOf levelOf outBy
+unfolding heldOf placeOf Has writtenOf parentOf levelOf outBy
 carries-1000 = inl refl
 
-lines-are : linesOf User entered-events 1 ≡ line 0 100000 10 ∷ []
-unfolding mapOf placeOf mapLines checked textLines allOf consOf pieces filled lineOf threeOf
-    numbersOf numberOf allDigits decimal goodOf boundedOf fitsOf allApart apartOf apartSide
+lines-are : writtenLines User entered-events 1 ≡ line 0 100000 10 ∷ []
+unfolding writtenOf placeOf mapLines checked textLines allOf consOf pieces filled lineOf threeOf
+    numbersOf decimalOf allDigits decimal goodOf boundedOf fitsOf allApart apartOf apartSide
 lines-are = refl
 
 1000-not-mapped : Stands User entered-events 1 1000 → ⊥
@@ -89,7 +90,7 @@ unfolding parentOf placeOf
 1000-not-mapped (x, through e z p (through f w q o)) = f refl
 
 entered-by-2 : Entered User entered-events 1 2 1000
-unfolding Entered Has heldOf placeOf mapOf parentOf levelOf outBy
+unfolding Entered Has heldOf placeOf writtenOf parentOf levelOf outBy
 entered-by-2 = inr (inl (refl, refl, inl refl))
 
 -- process 3 carries it too, and never entered: process 2, from which it descends, did
@@ -110,15 +111,15 @@ unfolding Entered Has heldOf placeOf
   where
     outside : Under (parentOf (forked 1 4 ∷ forked 2 3 ∷ mapped User 2 (bytesOf "0 100000 10") ∷ unshared 2 1 ∷ changed User 2 (record { real = 1000; effective = 1000; saved = 1000 }) ∷ forked 1 2 ∷ [])) 1 0 → ⊥
     outside (here e) = omega arith
-    outside (Rattle.claims.specs.Translation.below e u) = e refl
+    outside (deeper e u) = e refl
 
 not-zero : (n : ℕ) → 0 < n → n ≡ 0 → ⊥
 not-zero n h e = omega arith
 
 -- one ID is mapped in both top-level namespaces
 both-have : Stands User overlapping-events 1 100005 × Stands User overlapping-events 2 100005
-unfolding mapOf placeOf mapLines checked textLines allOf consOf pieces filled lineOf threeOf
-    numbersOf numberOf allDigits decimal goodOf boundedOf fitsOf allApart apartOf apartSide parentOf
+unfolding writtenOf placeOf mapLines checked textLines allOf consOf pieces filled lineOf threeOf
+    numbersOf decimalOf allDigits decimal goodOf boundedOf fitsOf allApart apartOf apartSide parentOf
 both-have = (
   (5, through (not-zero 1 (omega arith)) 100005 (record { which = 0; in-range = omega arith; offset = 5; below-count = omega arith; inside-is = refl; parent-is = refl }) (top {x = 100005} refl refl (omega arith))),
   (0, through (not-zero 2 (omega arith)) 100005 (record { which = 0; in-range = omega arith; offset = 0; below-count = omega arith; inside-is = refl; parent-is = refl }) (top {x = 100005} refl refl (omega arith))),

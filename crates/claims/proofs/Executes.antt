@@ -65,4 +65,4 @@ chain b h (exported {a = a} {after = after} {h = g} {r = r} x f code p) =
 pub executes : (a : List ℕ) (h : List Entry) → Execution a h → Executed a h
 executes a h x =
     let c = chain a h x in
-    record { tables = c .tables; told = c .told; holds = theorem (requestsOf h) (c .fit); bounds = bounds (requestsOf h) (c .fit) }
+    record { tables = c .tables; told = c .told; all-holds = theorem (requestsOf h) (c .fit); bounds = bounds (requestsOf h) (c .fit) }

@@ -10,7 +10,7 @@ use lib.Seq.{take-append-seam}
 use borrow.Author.Tests.{ltb-true, ltb-false}
 use Rattle.prelude.specs.Parts.{putAt}
 use Rattle.prelude.proofs.Tests.{by-test}
-use Rattle.rows.proofs.Lists.{tab-all}
+use Rattle.prelude.proofs.Made.{tab-all}
 use Rattle.rows.proofs.Rows.{row-get, row-none}
 use Rattle.records.specs.declared.Kind.the-variants.{User, Group}
 use Rattle.records.specs.declared.Ids.{Ids}

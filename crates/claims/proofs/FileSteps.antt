@@ -33,8 +33,8 @@ use Rattle.hierarchy.specs.Walks.{Translation}
 use Rattle.mapping.specs.Calls.{allCovered, writtenMap, withMap, mappedTables, writeMapOf, withDeny, writeSetgroupsOf}
 use Rattle.calls.specs.declared.Call.the-variants.{WriteMap, WriteSetgroups}
 use Rattle.claims.specs.Events.{Event, other, mapped}
-use Rattle.claims.specs.Words.{isProcess, isNamespace, placeOf, parentOf, levelOf, mapOf, orNone, heldOf, sameKind}
-use Rattle.claims.specs.Agreement.{linesIf, writtenIn, stateFor, Agreed}
+use Rattle.claims.specs.Words.{isProcess, isNamespace, placeOf, parentOf, levelOf, writtenOf, orNone, heldOf, sameKind}
+use Rattle.claims.specs.Agreement.{ifWritten, writtenIn, stateFor, Agreed}
 use Rattle.claims.specs.LiftedMaps.{liftedBy, liftOf}
 use Rattle.claims.proofs.Beside.{Beside, keeps-lifted, stores-lifted}
 use Rattle.claims.proofs.Allowed.{SoundAt}
@@ -109,7 +109,7 @@ each-covered above ls g f c z (x, p) =
 unwritten-is : (m : IdMap) → isWritten (m .state) ≡ false → writtenIn m ≡ none
 unwritten-is m e = by-state (m .state) e
   where
-    by-state : (t : MapState) → isWritten t ≡ false → linesIf t (m .lines) ≡ none
+    by-state : (t : MapState) → isWritten t ≡ false → ifWritten t (m .lines) ≡ none
     by-state Unwritten e = refl
     by-state (Written n) e = absurd (true≢false e)
 
@@ -124,20 +124,20 @@ module _ (by : Translation) (s : State) (h : List Event) (a : Agreed s h) (b : B
 
     -- the maps after a write: those of the other kind and of other namespaces are as they were
     maps-after : (j k : Kind) (ls : List Line) → mapLines text ≡ some ls → (i : ℕ)
-        → cond (eqb i (processAt s p .namespace)) (writtenIn (mapIn k (withMap j (namespaceAt s (processAt s p .namespace)) (writtenMap ls)))) (mapOf k h i) ≡ cond (sameKind k j && eqb i (placeOf h name)) (mapLines text) (mapOf k h i)
+        → cond (eqb i (processAt s p .namespace)) (writtenIn (mapIn k (withMap j (namespaceAt s (processAt s p .namespace)) (writtenMap ls)))) (writtenOf k h i) ≡ cond (sameKind k j && eqb i (placeOf h name)) (mapLines text) (writtenOf k h i)
     unfolding withMap
     maps-after User User ls m i = rw (caller-place s h a name p e, m, written-lines ls)
     maps-after Group Group ls m i = rw (caller-place s h a name p e, m, written-lines ls)
-    maps-after User Group ls m i = picked-same (mapOf Group h) i (processAt s p .namespace) _ (a .namespace-map Group (processAt s p .namespace))
-    maps-after Group User ls m i = picked-same (mapOf User h) i (processAt s p .namespace) _ (a .namespace-map User (processAt s p .namespace))
+    maps-after User Group ls m i = picked-same (writtenOf Group h) i (processAt s p .namespace) _ (a .namespace-map Group (processAt s p .namespace))
+    maps-after Group User ls m i = picked-same (writtenOf User h) i (processAt s p .namespace) _ (a .namespace-map User (processAt s p .namespace))
 
     states-after : (j k : Kind) (ls : List Line) → mapLines text ≡ some ls → (i : ℕ)
-        → cond (eqb i (processAt s p .namespace)) (mapIn k (withMap j (namespaceAt s (processAt s p .namespace)) (writtenMap ls)) .state) (stateFor (mapOf k h i)) ≡ stateFor (cond (sameKind k j && eqb i (placeOf h name)) (mapLines text) (mapOf k h i))
+        → cond (eqb i (processAt s p .namespace)) (mapIn k (withMap j (namespaceAt s (processAt s p .namespace)) (writtenMap ls)) .state) (stateFor (writtenOf k h i)) ≡ stateFor (cond (sameKind k j && eqb i (placeOf h name)) (mapLines text) (writtenOf k h i))
     unfolding withMap
-    states-after User User ls m i = rw (caller-place s h a name p e, m) (sym (cond-ap stateFor (eqb i (placeOf h name)) (some ls) (mapOf User h i)))
-    states-after Group Group ls m i = rw (caller-place s h a name p e, m) (sym (cond-ap stateFor (eqb i (placeOf h name)) (some ls) (mapOf Group h i)))
-    states-after User Group ls m i = picked-same (λ (n : ℕ). stateFor (mapOf Group h n)) i (processAt s p .namespace) _ (a .namespace-state Group (processAt s p .namespace))
-    states-after Group User ls m i = picked-same (λ (n : ℕ). stateFor (mapOf User h n)) i (processAt s p .namespace) _ (a .namespace-state User (processAt s p .namespace))
+    states-after User User ls m i = rw (caller-place s h a name p e, m) (sym (cond-ap stateFor (eqb i (placeOf h name)) (some ls) (writtenOf User h i)))
+    states-after Group Group ls m i = rw (caller-place s h a name p e, m) (sym (cond-ap stateFor (eqb i (placeOf h name)) (some ls) (writtenOf Group h i)))
+    states-after User Group ls m i = picked-same (λ (n : ℕ). stateFor (writtenOf Group h n)) i (processAt s p .namespace) _ (a .namespace-state Group (processAt s p .namespace))
+    states-after Group User ls m i = picked-same (λ (n : ℕ). stateFor (writtenOf User h n)) i (processAt s p .namespace) _ (a .namespace-state User (processAt s p .namespace))
 
     -- the lifted maps alike
     lifted-after : (k j : Kind) (ls : List Line) → mapLines text ≡ some ls → (i : ℕ)
@@ -157,18 +157,18 @@ module _ (by : Translation) (s : State) (h : List Event) (a : Agreed s h) (b : B
         (λ t. rw (caller-place s h a name p e, t))
 
     -- the lines above are those of the history
-    above-is : (k : Kind) → linesOf (mapIn k (namespaceAt s (namespaceAt s (processAt s p .namespace) .parent))) ≡ orNone (mapOf k h (parentOf h (placeOf h name)))
+    above-is : (k : Kind) → linesOf (mapIn k (namespaceAt s (namespaceAt s (processAt s p .namespace) .parent))) ≡ orNone (writtenOf k h (parentOf h (placeOf h name)))
     above-is k =
         let u : namespaceAt s (processAt s p .namespace) .parent ≡ parentOf h (placeOf h name) = a .namespace-parent (processAt s p .namespace) ∙ ap (parentOf h) (caller-place s h a name p e) in
-        lines-agree s h a k (namespaceAt s (processAt s p .namespace) .parent) ∙ ap (λ (m : ℕ). orNone (mapOf k h m)) u
+        lines-agree s h a k (namespaceAt s (processAt s p .namespace) .parent) ∙ ap (λ (m : ℕ). orNone (writtenOf k h m)) u
 
     mapped-next : (k : Kind) (ls : List Line) → mapLines text ≡ some ls → isWritten (mapIn k (namespaceAt s (processAt s p .namespace)) .state) ≡ false
         → allCovered (linesOf (mapIn k (namespaceAt s (namespaceAt s (processAt s p .namespace) .parent)))) ls ≡ true
         → Next h (mapped k name text) (mappedTables s k (processAt s p .namespace) ls)
-    unfolding mappedTables isProcess isNamespace placeOf parentOf levelOf mapOf liftOf heldOf
+    unfolding mappedTables isProcess isNamespace placeOf parentOf levelOf writtenOf liftOf heldOf
     mapped-next k ls m w c =
         let n = processAt s p .namespace in
-        let g : allCovered (orNone (mapOf k h (parentOf h (placeOf h name)))) ls ≡ true = rw (above-is k) at c in
+        let g : allCovered (orNone (writtenOf k h (parentOf h (placeOf h name)))) ls ≡ true = rw (above-is k) at c in
         record {
           agree = keeps-tables (putNamespace s n (withMap k (namespaceAt s n) (writtenMap ls))) _ _ _ _ _ _ _
               (stores-namespace s _ _ _ _ _ _ _ a n (withMap k (namespaceAt s n) (writtenMap ls)) (namespace-in-range s n target-live) _ _ _ _
@@ -200,8 +200,8 @@ module _ (by : Translation) (s : State) (h : List Event) (a : Agreed s h) (b : B
         (λ i. picked-same (isNamespace h) i n _ (a .namespace-live n))
         (λ i. picked-same (parentOf h) i n _ (a .namespace-parent n))
         (λ i. picked-same (levelOf h) i n _ (a .namespace-level n))
-        (λ k i. picked-same (mapOf k h) i n _ (ap writtenIn (deny-map k (namespaceAt s n) t) ∙ a .namespace-map k n))
-        (λ k i. picked-same (λ (i : ℕ). stateFor (mapOf k h i)) i n _ (ap (λ (m : IdMap). m .state) (deny-map k (namespaceAt s n) t) ∙ a .namespace-state k n)))
+        (λ k i. picked-same (writtenOf k h) i n _ (ap writtenIn (deny-map k (namespaceAt s n) t) ∙ a .namespace-map k n))
+        (λ k i. picked-same (λ (i : ℕ). stateFor (writtenOf k h i)) i n _ (ap (λ (m : IdMap). m .state) (deny-map k (namespaceAt s n) t) ∙ a .namespace-state k n)))
         (keeps-lifted s (λ (k : Kind). liftOf k h) _ _ b)
 
   pub write-map-next : (k : Kind) (c name : ℕ) → After h (WriteMap k c name) text list (writeMapOf by s k c name text)

@@ -3,15 +3,16 @@ use Prim.Native.Nat.{ℕ, suc, _-_, _≤_, _<_, _^_}
 use mathlib.Core.Path.{_≡_, refl, sym, ap, _∙_, subst}
 use mathlib.Core.Bool.{Bool, true, false, cond, _&&_}
 use mathlib.Core.List.{List, [], _∷_, map}
-use mathlib.Core.Option.{Option, none, some}
+use mathlib.Core.Option.{some}
 use lib.Dec.{eqb}
 use lib.ListN.{length, take, replicate}
 use lib.Seq.{take-append-seam}
 use borrow.Author.Tests.{eqb-true, ltb-false}
+use Rattle.prelude.specs.Lists.{allOf}
+use Rattle.prelude.proofs.Made.{cons-some, some-none}
 use Rattle.idmap.specs.declared.Translated.{Translated}
 use Rattle.idmap.specs.declared.Translated.the-variants.{Id, Unmapped}
 use Rattle.idmap.specs.Lookup.{orNoId}
-use Rattle.idmap.specs.Text.{consOf, allOf}
 use Rattle.records.specs.declared.Kind.{Kind}
 use Rattle.records.specs.declared.Kind.the-variants.{User, Group}
 use Rattle.records.specs.declared.Ids.{Ids}
@@ -25,16 +26,16 @@ use Rattle.hierarchy.specs.Walks.{Translation}
 use Rattle.credentials.specs.Calls.{chosen, withUsers, withGroups, withIds, setIdsOf, toOption, groupList, withList, kernelGroups, setGroupsOf, withSets, dropOf}
 use Rattle.calls.specs.declared.Call.the-variants.{SetIds, SetGroups, Drop}
 use Rattle.claims.specs.Events.{Event, changed, grouped}
-use Rattle.claims.specs.Words.{Held, isProcess, isNamespace, placeOf, parentOf, levelOf, mapOf, heldOf, standsFor, chosenOf, changedIds, sameKind}
+use Rattle.claims.specs.Words.{Held, isProcess, isNamespace, placeOf, parentOf, levelOf, writtenOf, heldOf, standsFor, chosenOf, changedIds, sameKind}
 use Rattle.claims.specs.History.{AllSmall}
-use Rattle.claims.specs.Agreement.{moreIn, heldIn, Agreed}
+use Rattle.claims.specs.Agreement.{supplementaryIn, heldIn, Agreed}
 use Rattle.claims.specs.LiftedMaps.{liftOf}
 use Rattle.claims.proofs.Beside.{Beside, keeps-lifted}
 use Rattle.claims.proofs.Allowed.{AllStand}
 use Rattle.claims.proofs.Stores.{cond-ap, named, process-in-range, same-number}
 use Rattle.claims.proofs.Agree.{picked-same, stores-process, keeps-process, caller-is, caller-live, caller-place, caller-ids}
 use Rattle.claims.proofs.Translating.{byHistory}
-use Rattle.claims.proofs.Sound.{some-none, same-kind}
+use Rattle.claims.proofs.Sound.{same-kind}
 use Rattle.prelude.proofs.Tests.{by-test, and-right}
 use Rattle.claims.proofs.Steps.{Next, nothing-happened, After}
 use Rattle.claims.proofs.Cases.{set-ids-case, set-groups-case, drop-case}
@@ -56,12 +57,12 @@ ids-groups by User p new = refl
 ids-groups by Group p new = refl
 
 -- as many groups, whatever a test picks
-same-more : (t : Bool) (three : Ids) (more : List ℕ) (m : Held) → (t ≡ true → more ≡ m .more) → length (cond t (record { three = three; more = more }) m .more) ≡ length (m .more)
-same-more true three more m e = ap length (e refl)
-same-more false three more m e = refl
+same-supplementary : (t : Bool) (three : Ids) (ids : List ℕ) (m : Held) → (t ≡ true → ids ≡ m .supplementary) → length (cond t (record { three = three; supplementary = ids }) m .supplementary) ≡ length (m .supplementary)
+same-supplementary true three ids m e = ap length (e refl)
+same-supplementary false three ids m e = refl
 
 -- what it carries: the new IDs of that kind
-ids-held : (j k : Kind) (by : Translation) (p : Process) (new : Ids) → heldIn j (withIds by k p new) ≡ cond (sameKind j k) (record { three = new; more = moreIn j p }) (heldIn j p)
+ids-held : (j k : Kind) (by : Translation) (p : Process) (new : Ids) → heldIn j (withIds by k p new) ≡ cond (sameKind j k) (record { three = new; supplementary = supplementaryIn j p }) (heldIn j p)
 unfolding withUsers withGroups
 ids-held User User by p new = refl
 ids-held User Group by p new = refl
@@ -77,12 +78,6 @@ sets-ids Group p permitted effective = refl
 option-id : (t : Translated) (y : ℕ) → toOption t ≡ some y → t ≡ Id y
 option-id (Id x) y e = let f : x ≡ y = cc in ap Id f
 option-id Unmapped y e = absurd (some-none (sym e))
-
-cons-some : (o : Option ℕ) (r : Option (List ℕ)) (l : List ℕ) → consOf o r ≡ some l → (y : ℕ) × (ys : List ℕ) × (o ≡ some y) × (r ≡ some ys) × (l ≡ y ∷ ys)
-unfolding consOf
-cons-some none r l e = absurd (some-none (sym e))
-cons-some (some y) none l e = absurd (some-none (sym e))
-cons-some (some y) (some ys) l e = (y, ys, refl, refl, cc)
 
 groups-are : (g : ℕ → Translated) (list l : List ℕ) → allOf (λ (x : ℕ). toOption (g x)) list ≡ some l → l ≡ map (λ (x : ℕ). orNoId (g x)) list
 unfolding allOf
@@ -137,30 +132,30 @@ module _ (by : Translation) (s : State) (h : List Event) (a : Agreed s h) (b : B
       changed-is : changedIds k h (placeOf h c) new (heldOf k h c .three) ≡ after
       changed-is = rw (stands-x, stands-y, stands-z)
 
-      more-is : moreIn k (processAt s i) ≡ heldOf k h c .more
-      more-is = ap (λ (m : Held). m .more) (caller-ids s h a c i e k)
+      supplementary-is : supplementaryIn k (processAt s i) ≡ heldOf k h c .supplementary
+      supplementary-is = ap (λ (m : Held). m .supplementary) (caller-ids s h a c i e k)
 
-      held-is : _≡_ {A = Held} (record { three = after; more = moreIn k (processAt s i) }) (record { three = changedIds k h (placeOf h c) new (heldOf k h c .three); more = heldOf k h c .more })
-      held-is = rw (changed-is, more-is)
+      held-is : _≡_ {A = Held} (record { three = after; supplementary = supplementaryIn k (processAt s i) }) (record { three = changedIds k h (placeOf h c) new (heldOf k h c .three); supplementary = heldOf k h c .supplementary })
+      held-is = rw (changed-is, supplementary-is)
 
       held-after : (j : Kind) (m : ℕ) → cond (eqb m i) (heldIn j (withIds by k (processAt s i) after)) (heldOf j h (suc m))
-          ≡ cond (sameKind j k && eqb (suc m) c) (record { three = changedIds j h (placeOf h c) new (heldOf j h c .three); more = heldOf j h c .more }) (heldOf j h (suc m))
+          ≡ cond (sameKind j k && eqb (suc m) c) (record { three = changedIds j h (placeOf h c) new (heldOf j h c .three); supplementary = heldOf j h c .supplementary }) (heldOf j h (suc m))
       held-after j m =
           by-test (sameKind j k)
           (λ t.
-          let f = subst (λ (r : Kind). _≡_ {A = Held} (record { three = after; more = moreIn r (processAt s i) }) (record { three = changedIds r h (placeOf h c) new (heldOf r h c .three); more = heldOf r h c .more })) (sym (same-kind j k t)) held-is in
+          let f = subst (λ (r : Kind). _≡_ {A = Held} (record { three = after; supplementary = supplementaryIn r (processAt s i) }) (record { three = changedIds r h (placeOf h c) new (heldOf r h c .three); supplementary = heldOf r h c .supplementary })) (sym (same-kind j k t)) held-is in
           rw (ids-held j k by (processAt s i) after, t, same-number m c i (caller-is s h a c i e), f))
           (λ t. rw (ids-held j k by (processAt s i) after, t) (picked-same (λ (r : ℕ). heldOf j h (suc r)) m i (heldIn j (processAt s i)) (a .process-ids j i)))
 
       -- the groups are as they were
-      count-after : (m : ℕ) → cond (eqb m i) (withIds by k (processAt s i) after .supplementary .count) (length (heldOf Group h (suc m) .more))
-          ≡ length (cond (sameKind Group k && eqb (suc m) c) (record { three = changedIds Group h (placeOf h c) new (heldOf Group h c .three); more = heldOf Group h c .more }) (heldOf Group h (suc m)) .more)
+      count-after : (m : ℕ) → cond (eqb m i) (withIds by k (processAt s i) after .supplementary .count) (length (heldOf Group h (suc m) .supplementary))
+          ≡ length (cond (sameKind Group k && eqb (suc m) c) (record { three = changedIds Group h (placeOf h c) new (heldOf Group h c .three); supplementary = heldOf Group h c .supplementary }) (heldOf Group h (suc m)) .supplementary)
       count-after m =
-          picked-same (λ (r : ℕ). length (heldOf Group h (suc r) .more)) m i _ (ap (λ (g : GroupList). g .count) (ids-groups by k (processAt s i) after) ∙ a .process-count i)
-          ∙ sym (same-more (sameKind Group k && eqb (suc m) c) _ _ _ (λ t. ap (λ (r : ℕ). heldOf Group h r .more) (sym (eqb-true (suc m) c (and-right (sameKind Group k) (eqb (suc m) c) t)))))
+          picked-same (λ (r : ℕ). length (heldOf Group h (suc r) .supplementary)) m i _ (ap (λ (g : GroupList). g .count) (ids-groups by k (processAt s i) after) ∙ a .process-count i)
+          ∙ sym (same-supplementary (sameKind Group k && eqb (suc m) c) _ _ _ (λ t. ap (λ (r : ℕ). heldOf Group h r .supplementary) (sym (eqb-true (suc m) c (and-right (sameKind Group k) (eqb (suc m) c) t)))))
 
       changed-next : new .real < 2 ^ 32 → new .effective < 2 ^ 32 → new .saved < 2 ^ 32 → Next h (changed k c new) (putProcess s i (withIds by k (processAt s i) after))
-      unfolding isProcess isNamespace placeOf parentOf levelOf mapOf liftOf heldOf
+      unfolding isProcess isNamespace placeOf parentOf levelOf writtenOf liftOf heldOf
       changed-next u v w = record {
         agree = stores-process s _ _ _ _ _ _ _ a i (withIds by k (processAt s i) after) (process-in-range s i (named s c i e .1)) _ _ _
             (λ m. picked-same (λ (r : ℕ). isProcess h (suc r)) m i _ (ids-live by k (processAt s i) after ∙ a .process-live i))
@@ -204,22 +199,22 @@ module _ (by : Translation) (s : State) (h : List Event) (a : Agreed s h) (b : B
     listed = take-append-seam l (replicate (16 - length l) 0) ∙ groups-are (standsFor Group h (placeOf h c)) list l all-stand
 
     groups-after : (k : Kind) (m : ℕ) → cond (eqb m i) (heldIn k (withList (processAt s i) (groupList l))) (heldOf k h (suc m))
-        ≡ cond (sameKind k Group && eqb (suc m) c) (record { three = heldOf k h c .three; more = map (λ (x : ℕ). orNoId (standsFor Group h (placeOf h c) x)) list }) (heldOf k h (suc m))
+        ≡ cond (sameKind k Group && eqb (suc m) c) (record { three = heldOf k h c .three; supplementary = map (λ (x : ℕ). orNoId (standsFor Group h (placeOf h c) x)) list }) (heldOf k h (suc m))
     unfolding withList
     groups-after User m = picked-same (λ (r : ℕ). heldOf User h (suc r)) m i (heldIn User (processAt s i)) (a .process-ids User i)
     groups-after Group m =
         let g : idsIn Group (processAt s i) ≡ heldOf Group h c .three = ap (λ (r : Held). r .three) (caller-ids s h a c i e Group) in
         rw (same-number m c i (caller-is s h a c i e), listed, g)
 
-    group-count : (m : ℕ) → cond (eqb m i) (groupList l .count) (length (heldOf Group h (suc m) .more))
-        ≡ length (cond (eqb (suc m) c) (record { three = heldOf Group h c .three; more = map (λ (x : ℕ). orNoId (standsFor Group h (placeOf h c) x)) list }) (heldOf Group h (suc m)) .more)
+    group-count : (m : ℕ) → cond (eqb m i) (groupList l .count) (length (heldOf Group h (suc m) .supplementary))
+        ≡ length (cond (eqb (suc m) c) (record { three = heldOf Group h c .three; supplementary = map (λ (x : ℕ). orNoId (standsFor Group h (placeOf h c) x)) list }) (heldOf Group h (suc m)) .supplementary)
     unfolding groupList
     group-count m =
         rw (same-number m c i (caller-is s h a c i e), groups-are (standsFor Group h (placeOf h c)) list l all-stand)
-        (sym (cond-ap (λ (r : Held). length (r .more)) (eqb m i) _ (heldOf Group h (suc m))))
+        (sym (cond-ap (λ (r : Held). length (r .supplementary)) (eqb m i) _ (heldOf Group h (suc m))))
 
     grouped-next : AllSmall list → length list ≤ 16 → Next h (grouped c list) (putProcess s i (withList (processAt s i) (groupList l)))
-    unfolding isProcess isNamespace placeOf parentOf levelOf mapOf liftOf heldOf withList
+    unfolding isProcess isNamespace placeOf parentOf levelOf writtenOf liftOf heldOf withList
     grouped-next f few = record {
       agree = stores-process s _ _ _ _ _ _ _ a i (withList (processAt s i) (groupList l)) (process-in-range s i (named s c i e .1)) _ _ _
           (λ m. picked-same (λ (r : ℕ). isProcess h (suc r)) m i _ (a .process-live i))

@@ -10,8 +10,8 @@ use borrow.Author.Tests.{ne-eqb, eqb-true}
 use Rattle.records.specs.declared.Kind.{Kind}
 use Rattle.prelude.proofs.Tests.{by-test, cond-elim, and-left, and-right}
 use Rattle.claims.specs.Events.{Event, other, forked, cloned, unshared, joined, mapped, changed, grouped}
-use Rattle.claims.specs.Words.{isProcess, isNamespace, placeOf, parentOf, mapOf, linesOf, sameKind}
-use Rattle.claims.specs.Translation.{Pairs, top, through, Under, here, below}
+use Rattle.claims.specs.Words.{isProcess, isNamespace, placeOf, parentOf, writtenOf, writtenLines, sameKind}
+use Rattle.claims.specs.Translation.{Pairs, top, through, Under, here, deeper}
 use Rattle.claims.specs.TopLevel.{IsUnder, OutOf}
 use Rattle.claims.proofs.Sound.{same-kind, differ}
 use Rattle.claims.proofs.Allowed.{Allowed, SoundAt}
@@ -19,7 +19,7 @@ use Rattle.claims.proofs.Allowed.{Allowed, SoundAt}
 -- ---- along parents
 pub under-trans : (up : ℕ → ℕ) (a b n : ℕ) → Under up a b → Under up b n → Under up a n
 under-trans up a b n u (here e) = subst (λ (m : ℕ). Under up a m) (sym e) u
-under-trans up a b n u (below h v) = below h (under-trans up a b (up n) u v)
+under-trans up a b n u (deeper h v) = deeper h (under-trans up a b (up n) u v)
 
 -- ---- what stays
 pub process-kept : (e : Event) (h : List Event) (p : ℕ) → isProcess h p ≡ true → isProcess (e ∷ h) p ≡ true
@@ -56,11 +56,11 @@ parent-kept (changed k c new) h a m t = refl
 parent-kept (grouped c list) h a m t = refl
 
 -- lines that pair IDs are there to stay: a map is written once
-nothing-paired : (k j : Kind) (h : List Event) (m n x z : ℕ) → k ≡ j → m ≡ n → mapOf j h n ≡ none → Pairs (linesOf k h m) x z → ⊥
-nothing-paired k j h m n x z d e f p = let g : mapOf k h m ≡ none = rw (d, e) f in not-suc-le-zero (rw g at (p .in-range))
+nothing-paired : (k j : Kind) (h : List Event) (m n x z : ℕ) → k ≡ j → m ≡ n → writtenOf j h n ≡ none → Pairs (writtenLines k h m) x z → ⊥
+nothing-paired k j h m n x z d e f p = let g : writtenOf k h m ≡ none = rw (d, e) f in not-suc-le-zero (rw g at (p .in-range))
 
-pub pairs-kept : (k : Kind) (e : Event) (h : List Event) → Allowed h e → (m x z : ℕ) → Pairs (linesOf k h m) x z → Pairs (linesOf k (e ∷ h) m) x z
-unfolding mapOf
+pub pairs-kept : (k : Kind) (e : Event) (h : List Event) → Allowed h e → (m x z : ℕ) → Pairs (writtenLines k h m) x z → Pairs (writtenLines k (e ∷ h) m) x z
+unfolding writtenOf
 pairs-kept k other h a m x z p = p
 pairs-kept k (forked c q) h a m x z p = p
 pairs-kept k (cloned c q n) h a m x z p = p
@@ -78,18 +78,18 @@ pairs-kept k (grouped c list) h a m x z p = p
 module _ (e : Event) (h : List Event) (a : Allowed h e) (s : SoundAt h) where
   pub under-kept : (b n : ℕ) → isNamespace h n ≡ true → IsUnder h b n → IsUnder (e ∷ h) b n
   under-kept b n t (here f) = here f
-  under-kept b n t (below f u) = below f (rw (parent-kept e h a n t) (under-kept b (parentOf h n) (s .parented n t) u))
+  under-kept b n t (deeper f u) = deeper f (rw (parent-kept e h a n t) (under-kept b (parentOf h n) (s .parented n t) u))
 
   was-under : (b m n : ℕ) → m ≡ n → isNamespace h n ≡ true → IsUnder (e ∷ h) b m → IsUnder h b n
   was-under b m n r t (here f) = here (sym r ∙ f)
-  was-under b m n r t (below f u) =
-      below (λ z. f (r ∙ z)) (was-under b (parentOf (e ∷ h) m) (parentOf h n) (ap (parentOf (e ∷ h)) r ∙ parent-kept e h a n t) (s .parented n t) u)
+  was-under b m n r t (deeper f u) =
+      deeper (λ z. f (r ∙ z)) (was-under b (parentOf (e ∷ h) m) (parentOf h n) (ap (parentOf (e ∷ h)) r ∙ parent-kept e h a n t) (s .parented n t) u)
 
   pub under-before : (b n : ℕ) → isNamespace h n ≡ true → IsUnder (e ∷ h) b n → IsUnder h b n
   under-before b n t u = was-under b n n refl t u
 
   -- a namespace that has lines is one
-  lined : (k : Kind) (m x z : ℕ) → Pairs (linesOf k h m) x z → isNamespace h m ≡ true
+  lined : (k : Kind) (m x z : ℕ) → Pairs (writtenLines k h m) x z → isNamespace h m ≡ true
   lined k m x z p = by-test (isNamespace h m) (λ t. t) (λ t. absurd (not-suc-le-zero (rw (s .made k m t) at (p .in-range))))
 
   pub out-kept : (k : Kind) (n x y : ℕ) → OutOf k h n x y → OutOf k (e ∷ h) n x y

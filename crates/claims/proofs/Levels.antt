@@ -15,7 +15,7 @@ use Rattle.idmap.specs.Good.{noId, goodOf}
 use Rattle.idmap.proofs.Translation.{two-answers}
 use Rattle.hierarchy.specs.Walks.{itself}
 use Rattle.prelude.proofs.Tests.{by-test}
-use Rattle.claims.specs.Translation.{Pairs, Out, top, through, Back, bottom, down, Under, here, below, outBy, backBy}
+use Rattle.claims.specs.Translation.{Pairs, GoesOut, top, through, ComesBack, bottom, down, Under, here, deeper, outBy, backBy}
 use Rattle.claims.proofs.Pairs.{out-pairs, pairs-out, back-pairs, pairs-back, inside-small, parent-small}
 
 -- a translation is an ID or not
@@ -35,7 +35,7 @@ is-itself x h = by-test (eqb x noId) (λ t. let e = eqb-true x noId t in absurd 
 
 module _ (up : ℕ → ℕ) (lines : ℕ → List Line) (good : (n : ℕ) → goodOf (lines n) ≡ true) where
   -- what the lookups give, the relations have
-  pub out-is : (k n x y : ℕ) → x < 2 ^ 32 → outBy up lines k n x ≡ Id y → Out up lines n x y
+  pub out-is : (k n x y : ℕ) → x < 2 ^ 32 → outBy up lines k n x ≡ Id y → GoesOut up lines n x y
   unfolding outBy
   out-is zero n x y small e =
       by-test (eqb n 0)
@@ -52,11 +52,11 @@ module _ (up : ℕ → ℕ) (lines : ℕ → List Line) (good : (n : ℕ) → go
       through (eqb-false n 0 t) z p (out-is k (up n) z y (omega arith) (sym (rw (t, f)) ∙ e)))
       (λ f. absurd (two-answers (sym (rw (t, f)) ∙ e))))
 
-  pub back-small : (n y x : ℕ) → Back up lines n y x → x < noId
+  pub back-small : (n y x : ℕ) → ComesBack up lines n y x → x < noId
   back-small n y x (bottom e f h) = h
   back-small n y x (down e z b p) = inside-small (lines n) x z (good n) p
 
-  pub back-is : (k n y x : ℕ) → y < 2 ^ 32 → backBy up lines k n y ≡ Id x → Back up lines n y x
+  pub back-is : (k n y x : ℕ) → y < 2 ^ 32 → backBy up lines k n y ≡ Id x → ComesBack up lines n y x
   unfolding backBy
   back-is zero n y x small e =
       by-test (eqb n 0)
@@ -74,23 +74,23 @@ module _ (up : ℕ → ℕ) (lines : ℕ → List Line) (good : (n : ℕ) → go
       (λ f. absurd (two-answers (sym (rw (t, f)) ∙ e))))
 
   -- out and back are one relation, read from either end
-  pub out-back : (n x y : ℕ) → Out up lines n x y → Back up lines n y x
+  pub out-back : (n x y : ℕ) → GoesOut up lines n x y → ComesBack up lines n y x
   out-back n x y (top e f h) = bottom e f h
   out-back n x y (through e z p o) = down e z (out-back (up n) z y o) p
 
-  pub back-out : (n x y : ℕ) → Back up lines n y x → Out up lines n x y
+  pub back-out : (n x y : ℕ) → ComesBack up lines n y x → GoesOut up lines n x y
   back-out n x y (bottom e f h) = top e f h
   back-out n x y (down e z b p) = through e z p (back-out (up n) z y b)
 
   -- the way out from under b passes b
-  pub passes : (b n x y : ℕ) → Under up b n → Out up lines n x y → (w : ℕ) × Out up lines b w y
-  passes b n x y (here e) o = (x, subst (λ (m : ℕ). Out up lines m x y) e o)
-  passes b n x y (below e u) (top f g h) = absurd (e f)
-  passes b n x y (below e u) (through f z p o) = passes b (up n) z y u o
+  pub passes : (b n x y : ℕ) → Under up b n → GoesOut up lines n x y → (w : ℕ) × GoesOut up lines b w y
+  passes b n x y (here e) o = (x, subst (λ (m : ℕ). GoesOut up lines m x y) e o)
+  passes b n x y (deeper e u) (top f g h) = absurd (e f)
+  passes b n x y (deeper e u) (through f z p o) = passes b (up n) z y u o
 
   module _ (level : ℕ → ℕ) (deep : (n x z : ℕ) → (n ≡ 0 → ⊥) → Pairs (lines n) x z → level (up n) < level n) where
     -- what the relations have, the lookups give in as many steps as the level says
-    pub is-out : (k n x y : ℕ) → level n ≤ k → Out up lines n x y → outBy up lines k n x ≡ Id y
+    pub is-out : (k n x y : ℕ) → level n ≤ k → GoesOut up lines n x y → outBy up lines k n x ≡ Id y
     unfolding outBy
     is-out zero n x y h (top e f s) = rw (eq-eqb n 0 e) (is-itself x s ∙ ap Id f)
     is-out zero n x y h (through e z p o) = let d = deep n x z e p in absurd (omega arith)
@@ -99,7 +99,7 @@ module _ (up : ℕ → ℕ) (lines : ℕ → List Line) (good : (n : ℕ) → go
         let d = deep n x z e p in
         rw (ne-eqb n 0 e, pairs-out (lines n) x z (good n) p) (is-out k (up n) z y (omega arith) o)
 
-    pub is-back : (k n y x : ℕ) → level n ≤ k → Back up lines n y x → backBy up lines k n y ≡ Id x
+    pub is-back : (k n y x : ℕ) → level n ≤ k → ComesBack up lines n y x → backBy up lines k n y ≡ Id x
     unfolding backBy
     is-back zero n y x h (bottom e f s) = rw (eq-eqb n 0 e) (rw (sym f) (is-itself x s))
     is-back zero n y x h (down e z b p) = let d = deep n x z e p in absurd (omega arith)
@@ -109,11 +109,11 @@ module _ (up : ℕ → ℕ) (lines : ℕ → List Line) (good : (n : ℕ) → go
         rw (ne-eqb n 0 e, is-back k (up n) y z (omega arith) b) (pairs-back (lines n) x z (good n) p)
 
     -- each gives one result only, and different IDs have different results
-    pub out-once : (n x y y′ : ℕ) → Out up lines n x y → Out up lines n x y′ → y ≡ y′
+    pub out-once : (n x y y′ : ℕ) → GoesOut up lines n x y → GoesOut up lines n x y′ → y ≡ y′
     out-once n x y y′ o o′ = cc (is-out (level n) n x y (omega arith) o, is-out (level n) n x y′ (omega arith) o′)
 
-    pub back-once : (n y x x′ : ℕ) → Back up lines n y x → Back up lines n y x′ → x ≡ x′
+    pub back-once : (n y x x′ : ℕ) → ComesBack up lines n y x → ComesBack up lines n y x′ → x ≡ x′
     back-once n y x x′ b b′ = cc (is-back (level n) n y x (omega arith) b, is-back (level n) n y x′ (omega arith) b′)
 
-    pub one-to-one : (n x x′ y : ℕ) → Out up lines n x y → Out up lines n x′ y → x ≡ x′
+    pub one-to-one : (n x x′ y : ℕ) → GoesOut up lines n x y → GoesOut up lines n x′ y → x ≡ x′
     one-to-one n x x′ y o o′ = back-once n y x x′ (out-back n x y o) (out-back n x′ y o′)

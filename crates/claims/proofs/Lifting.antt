@@ -22,7 +22,7 @@ use Rattle.records.specs.declared.Kind.{Kind}
 use Rattle.tables.specs.Tables.{noLift, fixedLift}
 use Rattle.prelude.proofs.Tests.{by-test, and-left, and-right}
 use Rattle.claims.specs.Words.{sameKind, orNone}
-use Rattle.claims.specs.Translation.{Pairs, Out, top, through}
+use Rattle.claims.specs.Translation.{Pairs, GoesOut, top, through}
 use Rattle.claims.specs.LiftedMaps.{liftedBy}
 use Rattle.claims.proofs.Sound.{same-kind, map-lines-good}
 use Rattle.claims.proofs.Pairs.{out-pairs, pairs-out, parent-small}
@@ -158,7 +158,7 @@ module _ (up : ℕ → ℕ) (maps : Kind → ℕ → Option (List Line)) (lifted
     unfolding out
     root-out n z q h =
         ap (λ (m : Lifted). out (m .lines) z) (ap (lifted k) q ∙ o .root k)
-        ∙ rw (lt-ltb ((z + 4294967296) % 4294967296) 4294967295 (omega arith)) (ap Id (omega arith))
+        ∙ rw (lt-ltb ((z + 4294967296) % 4294967296) noId (omega arith)) (ap Id (omega arith))
 
     -- a base lies above
     base-step : (n : ℕ) → level (up n) < level n → ((up n ≡ 0 → ⊥) → level (base (up n)) < level (up n)) → Step (up n) (orNone (maps k n)) (lifted k (up n)) (lifted k n) → level (base n) < level n
@@ -181,42 +181,42 @@ module _ (up : ℕ → ℕ) (maps : Kind → ℕ → Option (List Line)) (lifted
     lift-falls n x z e p = base-below (level n) n (omega arith) e (has-lift n x z p)
 
     -- what goes out level by level, goes out by lifted maps
-    through-lift : (n x y z : ℕ) → x < 2 ^ 32 → (n ≡ 0 → ⊥) → Pairs (lines n) x z → Out base lift (up n) z y → Step (up n) (orNone (maps k n)) (lifted k (up n)) (lifted k n) → Out base lift n x y
+    through-lift : (n x y z : ℕ) → x < 2 ^ 32 → (n ≡ 0 → ⊥) → Pairs (lines n) x z → GoesOut base lift (up n) z y → Step (up n) (orNone (maps k n)) (lifted k (up n)) (lifted k n) → GoesOut base lift n x y
     through-lift n x y z small e p r (anew b l) =
-        through e z (subst (λ (ls : List Line). Pairs ls x z) (sym l) p) (subst (λ (m : ℕ). Out base lift m z y) (sym b) r)
+        through e z (subst (λ (ls : List Line). Pairs ls x z) (sym l) p) (subst (λ (m : ℕ). GoesOut base lift m z y) (sym b) r)
     through-lift n x y z small e p (top u f h) (over b g) =
         let q : out (lift n) x ≡ Id z = g x ∙ rw (pairs-out (lines n) x z (fine n) p) (root-out (up n) z u h) in
         through e z (out-pairs (lift n) x z small (o .good k n) q) (top (b ∙ base-root (up n) u) f h)
     through-lift n x y z small e p (through u v p′ r) (over b g) =
         let q : out (lift n) x ≡ Id v = g x ∙ rw (pairs-out (lines n) x z (fine n) p) (pairs-out (lift (up n)) z v (o .good k (up n)) p′) in
-        through e v (out-pairs (lift n) x v small (o .good k n) q) (subst (λ (m : ℕ). Out base lift m v y) (sym b) r)
+        through e v (out-pairs (lift n) x v small (o .good k n) q) (subst (λ (m : ℕ). GoesOut base lift m v y) (sym b) r)
 
-    pub out-lifted : (n x y : ℕ) → x < 2 ^ 32 → Out up lines n x y → Out base lift n x y
+    pub out-lifted : (n x y : ℕ) → x < 2 ^ 32 → GoesOut up lines n x y → GoesOut base lift n x y
     out-lifted n x y small (top e f h) = top e f h
     out-lifted n x y small (through e z p r) =
         let s = parent-small (lines n) x z (fine n) p in
         through-lift n x y z small e p (out-lifted (up n) z y (omega arith) r) (o .step k n e (has-map n x z p))
 
     -- and the other way round
-    at-root : (m w y : ℕ) → m ≡ 0 → Out base lift m w y → w ≡ y
+    at-root : (m w y : ℕ) → m ≡ 0 → GoesOut base lift m w y → w ≡ y
     at-root m w y z (top e f h) = f
     at-root m w y z (through e v p r) = absurd (e z)
 
     -- a piece that goes on from the base goes on from the parent
-    rejoin : (n z w y : ℕ) → z < noId → base n ≡ base (up n) → out (lift (up n)) z ≡ Id w → Out base lift (base n) w y → Out base lift (up n) z y
+    rejoin : (n z w y : ℕ) → z < noId → base n ≡ base (up n) → out (lift (up n)) z ≡ Id w → GoesOut base lift (base n) w y → GoesOut base lift (up n) z y
     rejoin n z w y s b v r =
         by-test (eqb (up n) 0)
         (λ t.
         let u = eqb-true (up n) 0 t in
         let same : z ≡ w = cc (root-out (up n) z u s, v) in
         top u (same ∙ at-root (base n) w y (b ∙ base-root (up n) u) r) s)
-        (λ t. through (eqb-false (up n) 0 t) w (out-pairs (lift (up n)) z w (omega arith) (o .good k (up n)) v) (subst (λ (m : ℕ). Out base lift m w y) b r))
+        (λ t. through (eqb-false (up n) 0 t) w (out-pairs (lift (up n)) z w (omega arith) (o .good k (up n)) v) (subst (λ (m : ℕ). GoesOut base lift m w y) b r))
 
-    from-lift : (n x y w : ℕ) → x < 2 ^ 32 → (n ≡ 0 → ⊥) → Pairs (lift n) x w → Out base lift (base n) w y → ((z : ℕ) → z < 2 ^ 32 → Out base lift (up n) z y → Out up lines (up n) z y)
-        → Step (up n) (orNone (maps k n)) (lifted k (up n)) (lifted k n) → Out up lines n x y
+    from-lift : (n x y w : ℕ) → x < 2 ^ 32 → (n ≡ 0 → ⊥) → Pairs (lift n) x w → GoesOut base lift (base n) w y → ((z : ℕ) → z < 2 ^ 32 → GoesOut base lift (up n) z y → GoesOut up lines (up n) z y)
+        → Step (up n) (orNone (maps k n)) (lifted k (up n)) (lifted k n) → GoesOut up lines n x y
     from-lift n x y w small e p r ih (anew b l) =
         let s = parent-small (lift n) x w (o .good k n) p in
-        through e w (subst (λ (ls : List Line). Pairs ls x w) l p) (ih w (omega arith) (subst (λ (m : ℕ). Out base lift m w y) b r))
+        through e w (subst (λ (ls : List Line). Pairs ls x w) l p) (ih w (omega arith) (subst (λ (m : ℕ). GoesOut base lift m w y) b r))
     from-lift n x y w small e p r ih (over b g) =
         let there : thenId (out (lines n) x) (out (lift (up n))) ≡ Id w = sym (g x) ∙ pairs-out (lift n) x w (o .good k n) p in
         by-translated (out (lines n) x)
@@ -227,7 +227,7 @@ module _ (up : ℕ → ℕ) (maps : Kind → ℕ → Option (List Line)) (lifted
         through e z pz (ih z (omega arith) (rejoin n z w y s b v r)))
         (λ q. absurd (two-answers (sym (rw q) ∙ there)))
 
-    pub lifted-out : (f n x y : ℕ) → level n ≤ f → x < 2 ^ 32 → Out base lift n x y → Out up lines n x y
+    pub lifted-out : (f n x y : ℕ) → level n ≤ f → x < 2 ^ 32 → GoesOut base lift n x y → GoesOut up lines n x y
     lifted-out zero n x y h small (top e q s) = top e q s
     lifted-out zero n x y h small (through e w p r) = let d = falls n e (has-lift n x w p) in absurd (omega arith)
     lifted-out (suc f) n x y h small (top e q s) = top e q s

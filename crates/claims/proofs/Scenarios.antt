@@ -2,11 +2,12 @@
 use mathlib.Core.Path.{_≡_, refl}
 use mathlib.Core.List.{List, [], _∷_, map, head-eq-of-cons-eq, tail-eq-of-cons-eq}
 use Rattle.prelude.specs.Parts.{fitsAt, putAt}
+use Rattle.prelude.specs.Lists.{consOf, allOf}
 use Rattle.capability.specs.Sets.{holds}
 use Rattle.idmap.specs.Lookup.{out, reachOf}
 use Rattle.idmap.specs.Good.{fitsOf, boundedOf, apartSide, apartOf, allApart, goodOf}
 use Rattle.idmap.specs.Cover.{coveredIn, coveredOf}
-use Rattle.idmap.specs.Text.{pieces, filled, consOf, allOf, allDigits, decimal, numberOf, numbersOf, threeOf, lineOf, textLines, checked, mapLines}
+use Rattle.idmap.specs.Text.{pieces, filled, allDigits, decimal, decimalOf, numbersOf, threeOf, lineOf, textLines, checked, mapLines}
 use Rattle.idmap.specs.Text.{padded}
 use Rattle.idmap.specs.Show.{shown, numberText, lineColumns, lineText, linesText}
 use Rattle.tables.specs.Tables.{processAt, namespaceAt, initialTables}
@@ -30,7 +31,7 @@ each (c ∷ cs) e = (head-eq-of-cons-eq e, each cs (tail-eq-of-cons-eq e))
 
 pub scenarios-come-out : AllComeOut
 unfolding fitsAt putAt holds out reachOf fitsOf boundedOf apartSide apartOf allApart goodOf coveredIn coveredOf
-    pieces filled consOf allOf allDigits decimal numberOf numbersOf threeOf lineOf textLines checked mapLines padded
+    pieces filled consOf allOf allDigits decimal decimalOf numbersOf threeOf lineOf textLines checked mapLines padded
     shown numberText lineColumns lineText linesText
     processAt namespaceAt initialTables processNamed namespaceNamed freeFrom freeProcessPlace freeNamespacePlace
     heightOf byLevels outBy backBy ownedBy holdsIn capableIn

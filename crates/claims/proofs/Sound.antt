@@ -40,9 +40,6 @@ pub record Sound (isP isN : ℕ → Bool) (place up level : ℕ → ℕ) (maps :
   pub made : (k : Kind) (m : ℕ) → isN m ≡ false → maps k m ≡ none
   pub root-written : (k : Kind) → maps k 0 ≡ none → ⊥
 
-pub some-none : {A : Type 0} {x : A} → some x ≡ none → ⊥
-some-none e = let z : _≡_ {A = ℕ} 0 1 = cc in omega arith
-
 pub same-kind : (k j : Kind) → sameKind k j ≡ true → k ≡ j
 same-kind User User e = refl
 same-kind User Group e = absurd (true≢false (sym e))

@@ -15,7 +15,7 @@ use Rattle.records.specs.declared.Namespace.{Namespace}
 use Rattle.records.specs.Records.{freeProcess, freeNamespace, mapIn}
 use Rattle.tables.specs.Tables.{State, processAt, namespaceAt, liftedMaps, noLift, fixedLift, liftedAt, putProcess, firstProcess, rootNamespace, firstLiftedMaps, initialTables, allZero}
 use Rattle.prelude.proofs.Tests.{by-test}
-use Rattle.claims.specs.Words.{isProcess, isNamespace, placeOf, parentOf, levelOf, mapOf, heldOf}
+use Rattle.claims.specs.Words.{isProcess, isNamespace, placeOf, parentOf, levelOf, writtenOf, heldOf}
 use Rattle.claims.specs.Agreement.{heldIn, writtenIn, stateFor, Agrees, Agreed}
 use Rattle.claims.specs.LiftedMaps.{liftOf}
 use Rattle.claims.proofs.Beside.{Beside}
@@ -30,7 +30,7 @@ all-same x (suc n) (suc i) = all-same x n i
 abbrev empty : State
 empty = record { processes = replicate 128 freeProcess; namespaces = replicate 64 freeNamespace; liftedUsers = firstLiftedMaps; liftedGroups = firstLiftedMaps }
 
-free-ids : (k : Kind) → heldIn k freeProcess ≡ record { three = allZero; more = [] }
+free-ids : (k : Kind) → heldIn k freeProcess ≡ record { three = allZero; supplementary = [] }
 free-ids User = refl
 free-ids Group = refl
 
@@ -43,7 +43,7 @@ free-state User = refl
 free-state Group = refl
 
 -- tables with no process and no namespace
-empty-agrees : Agrees empty (λ (i : ℕ). false) (λ (i : ℕ). false) (λ (i : ℕ). 0) (λ (i : ℕ). 0) (λ (i : ℕ). 0) (λ (k : Kind) (i : ℕ). none) (λ (k : Kind) (i : ℕ). record { three = allZero; more = [] })
+empty-agrees : Agrees empty (λ (i : ℕ). false) (λ (i : ℕ). false) (λ (i : ℕ). 0) (λ (i : ℕ). 0) (λ (i : ℕ). 0) (λ (k : Kind) (i : ℕ). none) (λ (k : Kind) (i : ℕ). record { three = allZero; supplementary = [] })
 unfolding processAt namespaceAt
 empty-agrees = record {
   process-places = length-replicate 128 freeProcess;
@@ -59,17 +59,17 @@ empty-agrees = record {
   namespace-state = λ k i. ap (λ (n : Namespace). mapIn k n .state) (all-same freeNamespace 64 i) ∙ free-state k;
 }
 
-first-ids : (k : Kind) → heldIn k firstProcess ≡ record { three = allZero; more = [] }
+first-ids : (k : Kind) → heldIn k firstProcess ≡ record { three = allZero; supplementary = [] }
 first-ids User = refl
 first-ids Group = refl
 
-root-map : (k : Kind) (i : ℕ) → cond (eqb i 0) (writtenIn (mapIn k rootNamespace)) none ≡ mapOf k [] i
-unfolding mapOf
+root-map : (k : Kind) (i : ℕ) → cond (eqb i 0) (writtenIn (mapIn k rootNamespace)) none ≡ writtenOf k [] i
+unfolding writtenOf
 root-map User i = refl
 root-map Group i = refl
 
-root-state : (k : Kind) (i : ℕ) → cond (eqb i 0) (mapIn k rootNamespace .state) Unwritten ≡ stateFor (mapOf k [] i)
-unfolding mapOf
+root-state : (k : Kind) (i : ℕ) → cond (eqb i 0) (mapIn k rootNamespace .state) Unwritten ≡ stateFor (writtenOf k [] i)
+unfolding writtenOf
 root-state User i = by-test (eqb i 0) (λ t. rw t) (λ t. rw t)
 root-state Group i = by-test (eqb i 0) (λ t. rw t) (λ t. rw t)
 

@@ -8,7 +8,7 @@ use borrow.Author.Tests.{eq-eqb, ne-eqb, eqb-true}
 use Rattle.prelude.proofs.Tests.{by-test}
 use Rattle.claims.specs.Events.{Event, other, forked, cloned, unshared, joined, mapped, changed, grouped}
 use Rattle.claims.specs.Words.{isProcess, isNamespace, placeOf, parentOf}
-use Rattle.claims.specs.Translation.{below}
+use Rattle.claims.specs.Translation.{deeper}
 use Rattle.claims.specs.TopLevel.{TopLevel, IsUnder}
 use Rattle.claims.proofs.Sound.{differ}
 use Rattle.claims.proofs.Allowed.{Allowed, Valid, SoundAt, sound}
@@ -30,7 +30,7 @@ stays-step (unshared c n) h a s p b t u =
     by-test (eqb p c)
     (λ r.
     let w = subst (λ (i : ℕ). IsUnder (unshared c n ∷ h) b (placeOf h i)) (eqb-true p c r) v in
-    rw r (below (λ z. differ (isNamespace h) 0 n (s .root) (a .unused) (sym z)) (rw (eq-eqb n n refl) w)))
+    rw r (deeper (λ z. differ (isNamespace h) 0 n (s .root) (a .unused) (sym z)) (rw (eq-eqb n n refl) w)))
     (λ r. rw r v)
 stays-step (joined c n) h a s p b t u =
     by-test (eqb p c)

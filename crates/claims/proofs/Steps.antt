@@ -25,9 +25,9 @@ use Rattle.calls.specs.declared.Call.{Call}
 use Rattle.calls.specs.declared.Call.the-variants.{Fork, Clone, Unshare, Setns}
 use Rattle.prelude.proofs.Tests.{by-test, and-left}
 use Rattle.claims.specs.Events.{Event, other, forked, cloned, unshared, joined}
-use Rattle.claims.specs.Words.{Held, isProcess, isNamespace, placeOf, parentOf, levelOf, mapOf, heldOf}
+use Rattle.claims.specs.Words.{Held, isProcess, isNamespace, placeOf, parentOf, levelOf, writtenOf, heldOf}
 use Rattle.claims.specs.Translation.{here}
-use Rattle.claims.specs.Translation.{below as under-parent}
+use Rattle.claims.specs.Translation.{deeper}
 use Rattle.claims.specs.TopLevel.{IsUnder}
 use Rattle.claims.specs.History.{happenedBy}
 use Rattle.claims.specs.Agreement.{heldIn, writtenIn, stateFor, Agrees, Agreed}
@@ -47,7 +47,7 @@ pub record Next (h : List Event) (e : Event) (t : State) : Type 0 where
 
 -- nothing happened
 pub nothing-happened : (s : State) (h : List Event) → Agreed s h → Beside s h → Next h other s
-unfolding isProcess isNamespace placeOf parentOf levelOf mapOf liftOf heldOf
+unfolding isProcess isNamespace placeOf parentOf levelOf writtenOf liftOf heldOf
 nothing-happened s h a b = record { agree = a; beside = b; allowed = tt }
 
 abbrev pub After : List Event → Call → List ℕ → List ℕ → Outcome → Type 0
@@ -56,12 +56,12 @@ After h c text list o = Next h (happenedBy c text list (o .reply)) (o .tables)
 module _ (by : Translation) (s : State) (h : List Event) (a : Agreed s h) (b : Beside s h) (d : SoundAt h) (l : LiftsAt h) (text list : List ℕ) where
   -- a child has as many groups as the caller
   count-after : (j q c i : ℕ) → processNamed s c ≡ At i
-      → cond (eqb j q) (processAt s i .supplementary .count) (length (heldOf Group h (suc j) .more)) ≡ length (cond (eqb (suc j) (q + 1)) (heldOf Group h c) (heldOf Group h (suc j)) .more)
-  count-after j q c i e = rw (next-number j q, caller-count s h a c i e) (sym (cond-ap (λ (m : Held). length (m .more)) (eqb j q) (heldOf Group h c) (heldOf Group h (suc j))))
+      → cond (eqb j q) (processAt s i .supplementary .count) (length (heldOf Group h (suc j) .supplementary)) ≡ length (cond (eqb (suc j) (q + 1)) (heldOf Group h c) (heldOf Group h (suc j)) .supplementary)
+  count-after j q c i e = rw (next-number j q, caller-count s h a c i e) (sym (cond-ap (λ (m : Held). length (m .supplementary)) (eqb j q) (heldOf Group h c) (heldOf Group h (suc j))))
 
   -- ---- fork
   forked-next : (c i q : ℕ) → processNamed s c ≡ At i → freeProcessPlace s ≡ At q → Next h (forked c (q + 1)) (putProcess s q (processAt s i))
-  unfolding isProcess isNamespace placeOf parentOf levelOf mapOf liftOf heldOf
+  unfolding isProcess isNamespace placeOf parentOf levelOf writtenOf liftOf heldOf
   forked-next c i q e f = record {
     agree = stores-process s _ _ _ _ _ _ _ a q (processAt s i) (free-process s q f .0) _ _ _
         (λ j. rw (next-number j q, named s c i e .1))
@@ -118,7 +118,7 @@ module _ (by : Translation) (s : State) (h : List Event) (a : Agreed s h) (b : B
     -- the namespace is stored, and every process is as it was
     with-child : Agrees (withChild s p n) (isProcess h) (λ (i : ℕ). cond (eqb i n) true (isNamespace h i)) (placeOf h)
         (λ (i : ℕ). cond (eqb i n) (placeOf h c) (parentOf h i)) (λ (i : ℕ). cond (eqb i n) (suc (levelOf h (placeOf h c))) (levelOf h i))
-        (λ (k : Kind). mapOf k h) (λ (k : Kind). heldOf k h)
+        (λ (k : Kind). writtenOf k h) (λ (k : Kind). heldOf k h)
     unfolding below
     with-child =
         keeps-tables (putNamespace s n child) _ _ _ _ _ _ _
@@ -126,8 +126,8 @@ module _ (by : Translation) (s : State) (h : List Event) (a : Agreed s h) (b : B
         (λ i. refl)
         (λ i. rw (caller-place s h a c p e))
         (λ i. rw (level-above, add-one))
-        (λ k i. picked-same (mapOf k h) i n (writtenIn (mapIn k child)) (fresh-map k (processAt s p) own ∙ sym (d .made k n unused)))
-        (λ k i. picked-same (λ (m : ℕ). stateFor (mapOf k h m)) i n (mapIn k child .state) (fresh-state k (processAt s p) own ∙ ap stateFor (sym (d .made k n unused)))))
+        (λ k i. picked-same (writtenOf k h) i n (writtenIn (mapIn k child)) (fresh-map k (processAt s p) own ∙ sym (d .made k n unused)))
+        (λ k i. picked-same (λ (m : ℕ). stateFor (writtenOf k h m)) i n (mapIn k child .state) (fresh-state k (processAt s p) own ∙ ap stateFor (sym (d .made k n unused)))))
         _ _
 
     -- it has no lifted map, and every other one is as it was
@@ -139,7 +139,7 @@ module _ (by : Translation) (s : State) (h : List Event) (a : Agreed s h) (b : B
         (keeps-lifted s (λ (k : Kind). liftOf k h) _ _ b)
 
     cloned-next : (q : ℕ) → freeProcessPlace s ≡ At q → Next h (cloned c (q + 1) n) (putProcess (withChild s p n) q (entered (processAt s p) n))
-    unfolding isProcess isNamespace placeOf parentOf levelOf mapOf liftOf heldOf entered
+    unfolding isProcess isNamespace placeOf parentOf levelOf writtenOf liftOf heldOf entered
     cloned-next q f = record {
       agree = stores-process (withChild s p n) _ _ _ _ _ _ _ with-child q (entered (processAt s p) n) (free-process s q f .0) _ _ _
           (λ j. rw (next-number j q, named s c p e .1))
@@ -158,13 +158,13 @@ module _ (by : Translation) (s : State) (h : List Event) (a : Agreed s h) (b : B
     }
 
     unshared-next : Next h (unshared c n) (putProcess (withChild s p n) p (entered (processAt s p) n))
-    unfolding isProcess isNamespace placeOf parentOf levelOf mapOf liftOf heldOf entered
+    unfolding isProcess isNamespace placeOf parentOf levelOf writtenOf liftOf heldOf entered
     unshared-next = record {
       agree = stores-process (withChild s p n) _ _ _ _ _ _ _ with-child p (entered (processAt s p) n) (process-in-range s p (named s c p e .1)) _ _ _
           (λ j. picked-same (λ (i : ℕ). isProcess h (suc i)) j p (processAt s p .live) (a .process-live p))
           (λ j. rw (same-number j c p (caller-is s h a c p e)))
           (λ k j. picked-same (λ (i : ℕ). heldOf k h (suc i)) j p (heldIn k (entered (processAt s p) n)) (entered-ids k (processAt s p) n ∙ a .process-ids k p))
-          (λ j. picked-same (λ (i : ℕ). length (heldOf Group h (suc i) .more)) j p (processAt s p .supplementary .count) (a .process-count p));
+          (λ j. picked-same (λ (i : ℕ). length (heldOf Group h (suc i) .supplementary)) j p (processAt s p .supplementary .count) (a .process-count p));
       beside = keeps-lifted (withChild s p n) (λ (k : Kind). liftOf k h) _ _ child-beside;
       allowed = new-namespace;
     }
@@ -183,25 +183,25 @@ module _ (by : Translation) (s : State) (h : List Event) (a : Agreed s h) (b : B
   reaches own euid mine zero n e =
       by-test (eqb n own) (λ t. here (eqb-true n own t)) (λ t.
       by-test (eqb n 0) (λ z. absurd (true≢false (sym e ∙ rw (t, z)))) (λ z.
-      under-parent (eqb-false n 0 z)
+      deeper (eqb-false n 0 z)
       (here (sym (a .namespace-parent n) ∙ eqb-true (namespaceAt s n .parent) own (and-left _ (eqb (namespaceAt s n .owner) euid) (sym (rw (t, z)) ∙ e))))))
   reaches own euid mine (suc k) n e =
       by-test (eqb n own) (λ t. here (eqb-true n own t)) (λ t.
       by-test (eqb n 0) (λ z. absurd (true≢false (sym e ∙ rw (t, z)))) (λ z.
       by-test (ownedBy own euid (namespaceAt s n))
       (λ o.
-      under-parent (eqb-false n 0 z)
+      deeper (eqb-false n 0 z)
       (here (sym (a .namespace-parent n) ∙ eqb-true (namespaceAt s n .parent) own (and-left _ (eqb (namespaceAt s n .owner) euid) o))))
-      (λ o. under-parent (eqb-false n 0 z) (rw (a .namespace-parent n) at (reaches own euid mine k (namespaceAt s n .parent) (sym (rw (t, z, o)) ∙ e))))))
+      (λ o. deeper (eqb-false n 0 z) (rw (a .namespace-parent n) at (reaches own euid mine k (namespaceAt s n .parent) (sym (rw (t, z, o)) ∙ e))))))
 
   joined-next : (c name p n : ℕ) → processNamed s c ≡ At p → namespaceNamed s name ≡ At n → capableIn s (processAt s p) n sysAdmin ≡ true → Next h (joined c name) (putProcess s p (entered (processAt s p) n))
-  unfolding isProcess isNamespace placeOf parentOf levelOf mapOf liftOf heldOf entered capableIn
+  unfolding isProcess isNamespace placeOf parentOf levelOf writtenOf liftOf heldOf entered capableIn
   joined-next c name p n e f t = record {
     agree = stores-process s _ _ _ _ _ _ _ a p (entered (processAt s p) n) (process-in-range s p (named s c p e .1)) _ _ _
         (λ j. picked-same (λ (i : ℕ). isProcess h (suc i)) j p (processAt s p .live) (a .process-live p))
         (λ j. rw (same-number j c p (caller-is s h a c p e), space-named s name n f .0))
         (λ k j. picked-same (λ (i : ℕ). heldOf k h (suc i)) j p (heldIn k (entered (processAt s p) n)) (entered-ids k (processAt s p) n ∙ a .process-ids k p))
-        (λ j. picked-same (λ (i : ℕ). length (heldOf Group h (suc i) .more)) j p (processAt s p .supplementary .count) (a .process-count p));
+        (λ j. picked-same (λ (i : ℕ). length (heldOf Group h (suc i) .supplementary)) j p (processAt s p .supplementary .count) (a .process-count p));
     beside = keeps-lifted s (λ (k : Kind). liftOf k h) _ _ b;
     allowed = record {
       caller = caller-live s h a c p e;

@@ -20,7 +20,7 @@ use Rattle.calls.specs.declared.Call.{Call}
 use Rattle.calls.specs.declared.Call.the-variants.{Fork, Clone, Unshare, Setns, WriteMap, WriteSetgroups, ReadMap, ReadSetgroups, SetIds, SetGroups, Capable, Drop, OwnIdsOf, Translate}
 use Rattle.calls.specs.Calls.{Request, answerBy}
 use Rattle.claims.specs.Events.{Event}
-use Rattle.claims.specs.Words.{placeOf, parentOf, levelOf, linesOf}
+use Rattle.claims.specs.Words.{placeOf, parentOf, levelOf, writtenLines}
 use Rattle.claims.specs.Translation.{Pairs, top, through, byLevels}
 use Rattle.claims.specs.TopLevel.{TopLevel, IsUnder, OutOf, Stands, OnParentSide}
 use Rattle.claims.specs.History.{Entry, entryOf, stepOf, runFrom, historyFrom, run, history, AllSmall, CallFits, Fits, AllFit, happenedBy, events}
@@ -77,12 +77,12 @@ module _ (by : Translation) (s : State) (h : List Event) (d : SoundAt h) (u : by
   -- what the tables translate to is what the history does
   pub by-history : (k : Kind) (w : Way) (n x : ℕ) → x < 2 ^ 32 → (y : ℕ) → (turned by k w n x ≡ Id y) ↔ TranslatesTo h k w n x y
   by-history k Out n x small y = (
-    (λ e. out-is (parentOf h) (linesOf k h) (d .good k) (levelOf h n) n x y small (sym ((λ i. u i .out k n x)) ∙ e)),
-    (λ o. (λ i. u i .out k n x) ∙ is-out (parentOf h) (linesOf k h) (d .good k) (levelOf h) (deep _ _ _ _ _ _ d k) (levelOf h n) n x y (omega arith) o),
+    (λ e. out-is (parentOf h) (writtenLines k h) (d .good k) (levelOf h n) n x y small (sym ((λ i. u i .out k n x)) ∙ e)),
+    (λ o. (λ i. u i .out k n x) ∙ is-out (parentOf h) (writtenLines k h) (d .good k) (levelOf h) (deep _ _ _ _ _ _ d k) (levelOf h n) n x y (omega arith) o),
   )
   by-history k Back n x small y = (
-    (λ e. back-is (parentOf h) (linesOf k h) (d .good k) (levelOf h n) n x y small (sym ((λ i. u i .back k n x)) ∙ e)),
-    (λ o. (λ i. u i .back k n x) ∙ is-back (parentOf h) (linesOf k h) (d .good k) (levelOf h) (deep _ _ _ _ _ _ d k) (levelOf h n) n x y (omega arith) o),
+    (λ e. back-is (parentOf h) (writtenLines k h) (d .good k) (levelOf h n) n x y small (sym ((λ i. u i .back k n x)) ∙ e)),
+    (λ o. (λ i. u i .back k n x) ∙ is-back (parentOf h) (writtenLines k h) (d .good k) (levelOf h) (deep _ _ _ _ _ _ d k) (levelOf h n) n x y (omega arith) o),
   )
 
   translate-answers : (k : Kind) (w : Way) (c name x : ℕ) → x < 2 ^ 32 → Answers (translateReply by s k w c name x) (TranslatesTo h k w name x)
@@ -154,21 +154,21 @@ some-translate [] old e a = a .0
 some-translate (x ∷ new) old e a = some-translate new old e (a .1)
 
 -- what is mapped in a top-level namespace is on the parent side of its map
-on-parent-side : (k : Kind) (h : List Event) (b : ℕ) → TopLevel h b → (y : ℕ) → Stands k h b y → OnParentSide (linesOf k h b) y
+on-parent-side : (k : Kind) (h : List Event) (b : ℕ) → TopLevel h b → (y : ℕ) → Stands k h b y → OnParentSide (writtenLines k h b) y
 on-parent-side k h b (t, f, r) y (x, top e g i) = absurd (f e)
-on-parent-side k h b (t, f, r) y (x, through e z p o) = (x, subst (λ (m : ℕ). Pairs (linesOf k h b) x m) (at-root (parentOf h b) z y r o) p)
+on-parent-side k h b (t, f, r) y (x, through e z p o) = (x, subst (λ (m : ℕ). Pairs (writtenLines k h b) x m) (at-root (parentOf h b) z y r o) p)
   where
     at-root : (n z y : ℕ) → n ≡ 0 → OutOf k h n z y → z ≡ y
     at-root n z y q (top e g i) = g
     at-root n z y q (through e w p o) = absurd (e q)
 
 apart : (k : Kind) (h : List Event) → SoundAt h → (a b : ℕ) → TopLevel h a → TopLevel h b
-    → ((y : ℕ) → OnParentSide (linesOf k h a) y → OnParentSide (linesOf k h b) y → ⊥)
+    → ((y : ℕ) → OnParentSide (writtenLines k h a) y → OnParentSide (writtenLines k h b) y → ⊥)
     → (m n y : ℕ) → IsUnder h a m → IsUnder h b n → Stands k h m y → Stands k h n y → ⊥
 apart k h d a b t t′ f m n y u v (x, o) (x′, o′) =
     f y
-    (on-parent-side k h a t y (passes (parentOf h) (linesOf k h) (d .good k) a m x y u o))
-    (on-parent-side k h b t′ y (passes (parentOf h) (linesOf k h) (d .good k) b n x′ y v o′))
+    (on-parent-side k h a t y (passes (parentOf h) (writtenLines k h) (d .good k) a m x y u o))
+    (on-parent-side k h b t′ y (passes (parentOf h) (writtenLines k h) (d .good k) b n x′ y v o′))
 
 -- demand 3. The IDs of the calls are 32-bit, as the interface's types have it; nothing else is asked of the list
 pub theorem : (rs : List Request) → AllFit rs → Holds rs
@@ -181,14 +181,14 @@ theorem rs f =
       numbered = d .no-zero;
       translates = λ new old e q. some-translate new old e (subst AllTranslate q (r .all-translate));
       looked-up = λ k n x y small. (
-        out-is (parentOf h) (linesOf k h) (d .good k) (levelOf h n) n x y small,
-        is-out (parentOf h) (linesOf k h) (d .good k) (levelOf h) (deep _ _ _ _ _ _ d k) (levelOf h n) n x y (omega arith),
+        out-is (parentOf h) (writtenLines k h) (d .good k) (levelOf h n) n x y small,
+        is-out (parentOf h) (writtenLines k h) (d .good k) (levelOf h) (deep _ _ _ _ _ _ d k) (levelOf h n) n x y (omega arith),
       );
-      one-to-one = λ k. one-to-one (parentOf h) (linesOf k h) (d .good k) (levelOf h) (deep _ _ _ _ _ _ d k);
-      out-once = λ k. out-once (parentOf h) (linesOf k h) (d .good k) (levelOf h) (deep _ _ _ _ _ _ d k);
-      back-once = λ k. back-once (parentOf h) (linesOf k h) (d .good k) (levelOf h) (deep _ _ _ _ _ _ d k);
-      out-back = λ k. out-back (parentOf h) (linesOf k h) (d .good k);
-      back-out = λ k. back-out (parentOf h) (linesOf k h) (d .good k);
+      one-to-one = λ k. one-to-one (parentOf h) (writtenLines k h) (d .good k) (levelOf h) (deep _ _ _ _ _ _ d k);
+      out-once = λ k. out-once (parentOf h) (writtenLines k h) (d .good k) (levelOf h) (deep _ _ _ _ _ _ d k);
+      back-once = λ k. back-once (parentOf h) (writtenLines k h) (d .good k) (levelOf h) (deep _ _ _ _ _ _ d k);
+      out-back = λ k. out-back (parentOf h) (writtenLines k h) (d .good k);
+      back-out = λ k. back-out (parentOf h) (writtenLines k h) (d .good k);
       disjoint = λ k a b e t u g. apart k h d a b t u g;
       stays = λ new old q p b t l u.
           let v = subst Valid q (r .valid) in

@@ -19,25 +19,26 @@ use Rattle.tables.specs.Tables.{State, fixedLine}
 use Rattle.hierarchy.specs.Walks.{Translation, heightOf, itself}
 use Rattle.hierarchy.specs.Lifted.{outIn, toKernelBy, toKernel, backIn, fromKernelBy, fromKernel, byLiftedMaps}
 use Rattle.prelude.proofs.Tests.{by-test}
+use Rattle.prelude.proofs.Made.{some-none}
 use Rattle.claims.specs.Translation.{byLevels, outBy, backBy}
 use Rattle.claims.specs.Events.{Event, other, forked, cloned, unshared, joined, mapped, changed, grouped}
-use Rattle.claims.specs.Words.{isNamespace, placeOf, parentOf, levelOf, mapOf, linesOf, standsFor}
+use Rattle.claims.specs.Words.{isNamespace, placeOf, parentOf, levelOf, writtenOf, writtenLines, standsFor}
 use Rattle.claims.specs.Agreement.{Agreed}
 use Rattle.claims.specs.LiftedMaps.{liftOf}
 use Rattle.claims.proofs.Beside.{Beside}
 use Rattle.claims.proofs.Pairs.{back-pairs, parent-small}
 use Rattle.claims.proofs.Agree.{lines-agree}
-use Rattle.claims.proofs.Sound.{some-none, deep}
+use Rattle.claims.proofs.Sound.{deep}
 use Rattle.claims.proofs.Levels.{by-translated, out-is, is-out, back-is, is-back, out-back, back-out, back-small}
 use Rattle.claims.proofs.Allowed.{Allowed, Valid, SoundAt, sound}
 use Rattle.claims.proofs.Lifting.{Lifts, parented, written, lift-falls, out-lifted, lifted-out}
 
 -- ---- the lifted maps of every history
 abbrev pub LiftsAt : List Event → Type 0
-LiftsAt h = Lifts (parentOf h) (λ (k : Kind). mapOf k h) (λ (k : Kind). liftOf k h)
+LiftsAt h = Lifts (parentOf h) (λ (k : Kind). writtenOf k h) (λ (k : Kind). liftOf k h)
 
 lifts-start : LiftsAt []
-unfolding parentOf mapOf liftOf goodOf boundedOf fitsOf allApart
+unfolding parentOf writtenOf liftOf goodOf boundedOf fitsOf allApart
 lifts-start = record {
   root = λ k. refl;
   good = λ k n. by-test (eqb n 0) (λ t. rw t) (λ t. rw t);
@@ -47,7 +48,7 @@ lifts-start = record {
 }
 
 lifts-step : (e : Event) (h : List Event) → Allowed h e → SoundAt h → LiftsAt h → LiftsAt (e ∷ h)
-unfolding parentOf mapOf liftOf
+unfolding parentOf writtenOf liftOf
 lifts-step other h a s o = o
 lifts-step (forked c q) h a s o = o
 lifts-step (cloned c q n) h a s o = parented _ _ _ o n (placeOf h c) (λ k. s .made k n (a .1 .unused))
@@ -142,7 +143,7 @@ module _ (s : State) (h : List Event) (b : Beside s h) (d : SoundAt h) (o : Lift
       (ap (λ (t : Translated). cond (eqb n 0) (itself y) (thenId t (λ z. back (lift n) z))) (back-agrees 31 (base n) y))
 
   -- ---- which give what the maps give level by level
-  falls : (m : ℕ) → (m ≡ 0 → ⊥) → (mapOf k h m ≡ none → ⊥) → levelOf h (parentOf h m) < levelOf h m
+  falls : (m : ℕ) → (m ≡ 0 → ⊥) → (writtenOf k h m ≡ none → ⊥) → levelOf h (parentOf h m) < levelOf h m
   falls m z f = by-test (isNamespace h m) (λ t. let e = d .levelled m t z in omega arith) (λ t. absurd (f (d .made k m t)))
 
   -- the same two walks, by lifted maps and level by level
@@ -153,29 +154,29 @@ module _ (s : State) (h : List Event) (b : Beside s h) (d : SoundAt h) (o : Lift
         (λ y e.
         let r = out-is base lift (o .good k) 32 n x y small e in
         let q = lifted-out _ _ _ o k (levelOf h) falls (d .good k) (levelOf h n) n x y (omega arith) small r in
-        e ∙ sym (is-out (parentOf h) (linesOf k h) (d .good k) (levelOf h) (deep _ _ _ _ _ _ d k) (levelOf h n) n x y (omega arith) q))
+        e ∙ sym (is-out (parentOf h) (writtenLines k h) (d .good k) (levelOf h) (deep _ _ _ _ _ _ d k) (levelOf h n) n x y (omega arith) q))
         (λ e.
         by-translated (standsFor k h n x)
         (λ y f.
-        let r = out-is (parentOf h) (linesOf k h) (d .good k) (levelOf h n) n x y small f in
+        let r = out-is (parentOf h) (writtenLines k h) (d .good k) (levelOf h n) n x y small f in
         let q = out-lifted _ _ _ o k (levelOf h) falls (d .good k) n x y small r in
         absurd (two-answers (sym e ∙ is-out base lift (o .good k) (levelOf h) (lift-falls _ _ _ o k (levelOf h) falls (d .good k)) 32 n x y (d .shallow n) q)))
         (λ f. e ∙ sym f))
 
-    lift-returns : backBy base lift 32 n x ≡ backBy (parentOf h) (linesOf k h) (levelOf h n) n x
+    lift-returns : backBy base lift 32 n x ≡ backBy (parentOf h) (writtenLines k h) (levelOf h n) n x
     lift-returns =
         by-translated (backBy base lift 32 n x)
         (λ y e.
         let b = back-is base lift (o .good k) 32 n x y small e in
         let w = back-small base lift (o .good k) n x y b in
         let q = lifted-out _ _ _ o k (levelOf h) falls (d .good k) (levelOf h n) n y x (omega arith) (omega arith) (back-out base lift (o .good k) n y x b) in
-        e ∙ sym (is-back (parentOf h) (linesOf k h) (d .good k) (levelOf h) (deep _ _ _ _ _ _ d k) (levelOf h n) n x y (omega arith) (out-back (parentOf h) (linesOf k h) (d .good k) n y x q)))
+        e ∙ sym (is-back (parentOf h) (writtenLines k h) (d .good k) (levelOf h) (deep _ _ _ _ _ _ d k) (levelOf h n) n x y (omega arith) (out-back (parentOf h) (writtenLines k h) (d .good k) n y x q)))
         (λ e.
-        by-translated (backBy (parentOf h) (linesOf k h) (levelOf h n) n x)
+        by-translated (backBy (parentOf h) (writtenLines k h) (levelOf h n) n x)
         (λ y f.
-        let b = back-is (parentOf h) (linesOf k h) (d .good k) (levelOf h n) n x y small f in
-        let w = back-small (parentOf h) (linesOf k h) (d .good k) n x y b in
-        let q = out-lifted _ _ _ o k (levelOf h) falls (d .good k) n y x (omega arith) (back-out (parentOf h) (linesOf k h) (d .good k) n y x b) in
+        let b = back-is (parentOf h) (writtenLines k h) (d .good k) (levelOf h n) n x y small f in
+        let w = back-small (parentOf h) (writtenLines k h) (d .good k) n x y b in
+        let q = out-lifted _ _ _ o k (levelOf h) falls (d .good k) n y x (omega arith) (back-out (parentOf h) (writtenLines k h) (d .good k) n y x b) in
         absurd (two-answers (sym e ∙ is-back base lift (o .good k) (levelOf h) (lift-falls _ _ _ o k (levelOf h) falls (d .good k)) 32 n x y (d .shallow n) (out-back base lift (o .good k) n y x q))))
         (λ f. e ∙ sym f))
 
@@ -185,26 +186,26 @@ module _ (s : State) (h : List Event) (b : Beside s h) (d : SoundAt h) (o : Lift
       by-test (eqb n 0)
       (λ t.
       let z = eqb-true n 0 t in
-      to-agrees n x ∙ root-out base lift 32 n x z ∙ sym (root-out (parentOf h) (linesOf k h) (levelOf h n) n x z))
+      to-agrees n x ∙ root-out base lift 32 n x z ∙ sym (root-out (parentOf h) (writtenLines k h) (levelOf h n) n x z))
       (λ t.
       let z = eqb-false n 0 t in
-      to-agrees n x ∙ sym (low-out base lift 32 n x z) ∙ lift-stands n (x % 2 ^ 32) (omega arith) ∙ low-out (parentOf h) (linesOf k h) (levelOf h n) n x z)
+      to-agrees n x ∙ sym (low-out base lift 32 n x z) ∙ lift-stands n (x % 2 ^ 32) (omega arith) ∙ low-out (parentOf h) (writtenLines k h) (levelOf h n) n x z)
 
-  pub returns-agrees : (n y : ℕ) → fromKernel s k n y ≡ backBy (parentOf h) (linesOf k h) (levelOf h n) n y
+  pub returns-agrees : (n y : ℕ) → fromKernel s k n y ≡ backBy (parentOf h) (writtenLines k h) (levelOf h n) n y
   returns-agrees n y =
       by-test (eqb n 0)
       (λ t.
       let z = eqb-true n 0 t in
-      from-agrees n y ∙ root-back base lift 32 n y z ∙ sym (root-back (parentOf h) (linesOf k h) (levelOf h n) n y z))
+      from-agrees n y ∙ root-back base lift 32 n y z ∙ sym (root-back (parentOf h) (writtenLines k h) (levelOf h n) n y z))
       (λ t.
       let z = eqb-false n 0 t in
-      from-agrees n y ∙ sym (low-back base lift (o .good k) 32 n y z) ∙ lift-returns n (y % 2 ^ 32) (omega arith) ∙ low-back (parentOf h) (linesOf k h) (d .good k) (levelOf h n) n y z)
+      from-agrees n y ∙ sym (low-back base lift (o .good k) 32 n y z) ∙ lift-returns n (y % 2 ^ 32) (omega arith) ∙ low-back (parentOf h) (writtenLines k h) (d .good k) (levelOf h n) n y z)
 
 -- ---- the translation of a history, which is the level by level one of the tables
 abbrev pub byHistory : List Event → Translation
 byHistory h = record {
   out = λ (k : Kind) (n x : ℕ). standsFor k h n x;
-  back = λ (k : Kind) (n y : ℕ). backBy (parentOf h) (linesOf k h) (levelOf h n) n y;
+  back = λ (k : Kind) (n y : ℕ). backBy (parentOf h) (writtenLines k h) (levelOf h n) n y;
 }
 
 module _ (s : State) (h : List Event) (a : Agreed s h) (d : SoundAt h) where

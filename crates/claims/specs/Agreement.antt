@@ -15,23 +15,23 @@ use Rattle.records.specs.declared.IdMap.{IdMap}
 use Rattle.records.specs.Records.{idsIn, mapIn}
 use Rattle.tables.specs.Tables.{State, processAt, namespaceAt}
 use Rattle.claims.specs.Events.{Event}
-use Rattle.claims.specs.Words.{Held, isProcess, isNamespace, placeOf, parentOf, levelOf, mapOf, heldOf}
+use Rattle.claims.specs.Words.{Held, isProcess, isNamespace, placeOf, parentOf, levelOf, writtenOf, heldOf}
 
 -- the IDs of a kind in a process's record; only groups have supplementary ones
-abbrev pub moreIn : Kind → Process → List ℕ
-moreIn User p = []
-moreIn Group p = take (p .supplementary .count) (p .supplementary .ids)
+abbrev pub supplementaryIn : Kind → Process → List ℕ
+supplementaryIn User p = []
+supplementaryIn Group p = take (p .supplementary .count) (p .supplementary .ids)
 
 abbrev pub heldIn : Kind → Process → Held
-heldIn k p = record { three = idsIn k p; more = moreIn k p }
+heldIn k p = record { three = idsIn k p; supplementary = supplementaryIn k p }
 
 -- a map's record: unwritten, or written with its lines
-abbrev pub linesIf : MapState → List Line → Option (List Line)
-linesIf Unwritten ls = none
-linesIf (Written n) ls = some (take n ls)
+abbrev pub ifWritten : MapState → List Line → Option (List Line)
+ifWritten Unwritten ls = none
+ifWritten (Written n) ls = some (take n ls)
 
 abbrev pub writtenIn : IdMap → Option (List Line)
-writtenIn m = linesIf (m .state) (m .lines)
+writtenIn m = ifWritten (m .state) (m .lines)
 
 -- how the record says so: unwritten, or written with as many lines
 abbrev pub stateFor : Option (List Line) → MapState
@@ -47,7 +47,7 @@ pub record Agrees (s : State) (isP isN : ℕ → Bool) (place up level : ℕ →
   pub process-live : (i : ℕ) → processAt s i .live ≡ isP (suc i)
   pub process-place : (i : ℕ) → processAt s i .namespace ≡ place (suc i)
   pub process-ids : (k : Kind) (i : ℕ) → heldIn k (processAt s i) ≡ carries k (suc i)
-  pub process-count : (i : ℕ) → processAt s i .supplementary .count ≡ length (carries Group (suc i) .more)
+  pub process-count : (i : ℕ) → processAt s i .supplementary .count ≡ length (carries Group (suc i) .supplementary)
   pub namespace-live : (n : ℕ) → namespaceAt s n .live ≡ isN n
   pub namespace-parent : (n : ℕ) → namespaceAt s n .parent ≡ up n
   pub namespace-level : (n : ℕ) → namespaceAt s n .level ≡ level n
@@ -57,4 +57,4 @@ pub record Agrees (s : State) (isP isN : ℕ → Bool) (place up level : ℕ →
 -- the tables agree with a list of events
 abbrev pub Agreed : State → List Event → Type 0
 Agreed s h =
-    Agrees s (isProcess h) (isNamespace h) (placeOf h) (parentOf h) (levelOf h) (λ (k : Kind). mapOf k h) (λ (k : Kind). heldOf k h)
+    Agrees s (isProcess h) (isNamespace h) (placeOf h) (parentOf h) (levelOf h) (λ (k : Kind). writtenOf k h) (λ (k : Kind). heldOf k h)

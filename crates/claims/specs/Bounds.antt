@@ -19,6 +19,7 @@ use Rattle.records.specs.Records.{mapIn, linesOf}
 use Rattle.tables.specs.Tables.{State, processAt, namespaceAt}
 use Rattle.hierarchy.specs.Walks.{capableIn}
 use Rattle.calls.specs.Calls.{Request}
+use Rattle.claims.specs.Events.{Event}
 use Rattle.claims.specs.Words.{held}
 use Rattle.claims.specs.Translation.{byLevels}
 use Rattle.claims.specs.TopLevel.{OutOf, BackOf, OnParentSide, Has}
@@ -38,29 +39,37 @@ pub data HoldsCapability (s : State) (p : Process) (c : ℕ) : ℕ → Type 0 wh
 abbrev pub linesAt : State → Kind → ℕ → List Line
 linesAt s k n = linesOf (mapIn k (namespaceAt s n))
 
-pub record Bounds (rs : List Request) : Type 0 where
-  -- the walk is the three rules
-  pub walk : (i n c : ℕ) → processAt (run rs) i .live ≡ true → namespaceAt (run rs) n .live ≡ true
-      → (capableIn (run rs) (processAt (run rs) i) n c ≡ true) ↔ HoldsCapability (run rs) (processAt (run rs) i) c n
-  -- translation gives an ID exactly where the relations over the history's parents and maps do
-  pub out : (k : Kind) (n x y : ℕ) → x < 2 ^ 32 → (byLevels (run rs) .out k n x ≡ Id y) ↔ OutOf k (events (history rs)) n x y
-  pub back : (k : Kind) (n y x : ℕ) → y < 2 ^ 32 → (byLevels (run rs) .back k n y ≡ Id x) ↔ BackOf k (events (history rs)) n y x
-  -- every live record is in range, and what it names is live
-  pub process-in-range : (i : ℕ) → processAt (run rs) i .live ≡ true → i < 128
-  pub namespace-in-range : (n : ℕ) → namespaceAt (run rs) n .live ≡ true → n < 64
-  pub place-live : (i : ℕ) → processAt (run rs) i .live ≡ true → namespaceAt (run rs) (processAt (run rs) i .namespace) .live ≡ true
-  pub parent-live : (n : ℕ) → namespaceAt (run rs) n .live ≡ true → namespaceAt (run rs) (namespaceAt (run rs) n .parent) .live ≡ true
-  -- levels are at most 32
-  pub levels : (n : ℕ) → namespaceAt (run rs) n .level ≤ 32
-  -- every ID that a process carries is a kernel ID, and it has at most 16 groups
-  pub carried-ids : (k : Kind) (i y : ℕ) → Has y (held (heldIn k (processAt (run rs) i))) → y < noId
-  pub group-count : (i : ℕ) → processAt (run rs) i .supplementary .count ≤ 16
-  -- a written map has one to five lines, as many as its record says
-  pub line-count : (k : Kind) (n c : ℕ) → mapIn k (namespaceAt (run rs) n) .state ≡ Written c → (1 ≤ c) × (c ≤ maxLines) × (length (linesAt (run rs) k n) ≡ c)
-  -- each of them is bounded, and no two overlap on either side
-  pub lines-good : (k : Kind) (n : ℕ) → Good (linesAt (run rs) k n)
-  -- each parent-side ID of it has a line in the parent's map
-  pub covered : (k : Kind) (n z : ℕ) → OnParentSide (linesAt (run rs) k n) z → HasLine (linesAt (run rs) k (namespaceAt (run rs) n .parent)) z
-  -- an unwritten map translates nothing, out or back
-  pub unwritten : (k : Kind) (n x : ℕ) → mapIn k (namespaceAt (run rs) n) .state ≡ Unwritten
-      → (byLevels (run rs) .out k n x ≡ Unmapped) × (byLevels (run rs) .back k n x ≡ Unmapped)
+module _ (rs : List Request) where
+  -- the tables that the list leaves, and what happened by its calls
+  abbrev s : State
+  s = run rs
+
+  abbrev h : List Event
+  h = events (history rs)
+
+  pub record Bounds : Type 0 where
+    -- the walk is the three rules
+    pub walk : (i n c : ℕ) → processAt s i .live ≡ true → namespaceAt s n .live ≡ true
+        → (capableIn s (processAt s i) n c ≡ true) ↔ HoldsCapability s (processAt s i) c n
+    -- translation gives an ID exactly where the relations over the history's parents and maps do
+    pub out : (k : Kind) (n x y : ℕ) → x < 2 ^ 32 → (byLevels s .out k n x ≡ Id y) ↔ OutOf k h n x y
+    pub back : (k : Kind) (n y x : ℕ) → y < 2 ^ 32 → (byLevels s .back k n y ≡ Id x) ↔ BackOf k h n y x
+    -- every live record is in range, and what it names is live
+    pub process-in-range : (i : ℕ) → processAt s i .live ≡ true → i < 128
+    pub namespace-in-range : (n : ℕ) → namespaceAt s n .live ≡ true → n < 64
+    pub place-live : (i : ℕ) → processAt s i .live ≡ true → namespaceAt s (processAt s i .namespace) .live ≡ true
+    pub parent-live : (n : ℕ) → namespaceAt s n .live ≡ true → namespaceAt s (namespaceAt s n .parent) .live ≡ true
+    -- levels are at most 32
+    pub levels : (n : ℕ) → namespaceAt s n .level ≤ 32
+    -- every ID that a process carries is a kernel ID, and it has at most 16 groups
+    pub carried-ids : (k : Kind) (i y : ℕ) → Has y (held (heldIn k (processAt s i))) → y < noId
+    pub group-count : (i : ℕ) → processAt s i .supplementary .count ≤ 16
+    -- a written map has one to five lines, as many as its record says
+    pub line-count : (k : Kind) (n c : ℕ) → mapIn k (namespaceAt s n) .state ≡ Written c → (1 ≤ c) × (c ≤ maxLines) × (length (linesAt s k n) ≡ c)
+    -- each of them is bounded, and no two overlap on either side
+    pub lines-good : (k : Kind) (n : ℕ) → Good (linesAt s k n)
+    -- each parent-side ID of it has a line in the parent's map
+    pub covered : (k : Kind) (n z : ℕ) → OnParentSide (linesAt s k n) z → HasLine (linesAt s k (namespaceAt s n .parent)) z
+    -- an unwritten map translates nothing, out or back
+    pub unwritten : (k : Kind) (n x : ℕ) → mapIn k (namespaceAt s n) .state ≡ Unwritten
+        → (byLevels s .out k n x ≡ Unmapped) × (byLevels s .back k n x ≡ Unmapped)

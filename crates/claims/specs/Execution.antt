@@ -92,5 +92,5 @@ pub record Executed (a : List ℕ) (h : List Entry) : Type 0 where
   pub tables : tablesOf a ≡ run (requestsOf h)
   pub told : h ≡ history (requestsOf h)
   -- so all that holds after a list of calls holds of it
-  pub holds : Holds (requestsOf h)
+  pub all-holds : Holds (requestsOf h)
   pub bounds : Bounds (requestsOf h)

@@ -13,7 +13,7 @@ use Rattle.calls.specs.declared.Call.{Call}
 use Rattle.calls.specs.declared.Call.the-variants.{Fork, Clone, Unshare, Setns, WriteMap, WriteSetgroups, ReadMap, ReadSetgroups, SetIds, SetGroups, Capable, Drop, OwnIdsOf, Translate}
 use Rattle.calls.specs.Calls.{Request}
 use Rattle.claims.specs.Events.{Event}
-use Rattle.claims.specs.Words.{isProcess, placeOf, linesOf, standsFor, heldOf, held}
+use Rattle.claims.specs.Words.{isProcess, placeOf, writtenLines, standsFor, heldOf, held}
 use Rattle.claims.specs.TopLevel.{TopLevel, IsUnder, OutOf, BackOf, Stands, OnParentSide, Has, Descends, Entered}
 use Rattle.claims.specs.History.{Entry, run, history, events}
 use Rattle.claims.specs.Agreement.{Agreed}
@@ -46,36 +46,39 @@ TranslatesBy h (Translate k w c n x) r = Answers r (TranslatesTo h k w n x)
 abbrev pub Translates : List Event → Entry → Type 0
 Translates h e = TranslatesBy h (e .request .call) (e .reply)
 
--- everything is meant of user IDs by the user maps and, separately, of group IDs, supplementary groups included, by the group maps: k is the kind
-pub record Holds (rs : List Request) : Type 0 where
-  -- after the list the tables give each namespace its parent and its maps, each process its namespace and its IDs, and have no other
-  pub tables-agree : Agreed (run rs) (events (history rs))
-  -- processes are numbered from 1
-  pub numbered : isProcess (events (history rs)) 0 ≡ false
-  -- each translate in the list that is not refused answers by the translation, with the maps of that moment
-  pub translates : (new old : List Entry) (e : Entry) → history rs ≡ new ++ (e ∷ old) → Translates (events old) e
-  -- what an ID is looked up to stand for, where an ID change or a setgroups says what a process carries, is what it stands for
-  pub looked-up : (k : Kind) (n x y : ℕ) → x < 2 ^ 32 → (standsFor k (events (history rs)) n x ≡ Id y) ↔ OutOf k (events (history rs)) n x y
-  -- in every namespace two different mapped IDs never stand for one kernel ID
-  pub one-to-one : (k : Kind) (n x x′ y : ℕ) → OutOf k (events (history rs)) n x y → OutOf k (events (history rs)) n x′ y → x ≡ x′
-  -- going out gives one kernel ID, and coming back one ID
-  pub out-once : (k : Kind) (n x y y′ : ℕ) → OutOf k (events (history rs)) n x y → OutOf k (events (history rs)) n x y′ → y ≡ y′
-  pub back-once : (k : Kind) (n y x x′ : ℕ) → BackOf k (events (history rs)) n y x → BackOf k (events (history rs)) n y x′ → x ≡ x′
-  -- going out and back returns the mapped ID we began with
-  pub out-back : (k : Kind) (n x y : ℕ) → OutOf k (events (history rs)) n x y → BackOf k (events (history rs)) n y x
-  -- coming back from a kernel ID mapped there and going out returns that one
-  pub back-out : (k : Kind) (n x y : ℕ) → BackOf k (events (history rs)) n y x → OutOf k (events (history rs)) n x y
-  -- if two top-level namespaces' written maps share no kernel ID, then none that is mapped in one, or in any namespace nested at any depth
-  -- under it, is mapped in the other or in any namespace under that
-  pub disjoint : (k : Kind) (a b : ℕ) → (a ≡ b → ⊥) → TopLevel (events (history rs)) a → TopLevel (events (history rs)) b
-      → ((y : ℕ) → OnParentSide (linesOf k (events (history rs)) a) y → OnParentSide (linesOf k (events (history rs)) b) y → ⊥)
-      → (m n y : ℕ) → IsUnder (events (history rs)) a m → IsUnder (events (history rs)) b n
-      → Stands k (events (history rs)) m y → Stands k (events (history rs)) n y → ⊥
-  -- if a process was in a top-level namespace, or in anything nested under it, after any call of the list, it is still in it or under it at the
-  -- list's end, and that is a top-level namespace still. The histories after the calls of the list are the parts that the whole history ends in, since the newest stands first
-  pub stays : (new old : List Event) → events (history rs) ≡ new ++ old → (p b : ℕ) → isProcess old p ≡ true → TopLevel old b
-      → IsUnder old b (placeOf old p) → TopLevel (events (history rs)) b × IsUnder (events (history rs)) b (placeOf (events (history rs)) p)
-  -- each kernel ID that it carries is mapped there, or was carried into it by that process or by one that it descends from
-  pub carried : (k : Kind) (p b y : ℕ) → isProcess (events (history rs)) p ≡ true → TopLevel (events (history rs)) b
-      → IsUnder (events (history rs)) b (placeOf (events (history rs)) p) → Has y (held (heldOf k (events (history rs)) p))
-      → Stands k (events (history rs)) b y ⊎ ((q : ℕ) × ((q ≡ p) ⊎ Descends (events (history rs)) p q) × Entered k (events (history rs)) b q y)
+module _ (rs : List Request) where
+  -- what happened by the calls of the list
+  abbrev h : List Event
+  h = events (history rs)
+
+  -- everything is meant of user IDs by the user maps and, separately, of group IDs, supplementary groups included, by the group maps: k is the kind
+  pub record Holds : Type 0 where
+    -- after the list the tables give each namespace its parent and its maps, each process its namespace and its IDs, and have no other
+    pub tables-agree : Agreed (run rs) h
+    -- processes are numbered from 1
+    pub numbered : isProcess h 0 ≡ false
+    -- each translate in the list that is not refused answers by the translation, with the maps of that moment
+    pub translates : (new old : List Entry) (e : Entry) → history rs ≡ new ++ (e ∷ old) → Translates (events old) e
+    -- what an ID is looked up to stand for, where an ID change or a setgroups says what a process carries, is what it stands for
+    pub looked-up : (k : Kind) (n x y : ℕ) → x < 2 ^ 32 → (standsFor k h n x ≡ Id y) ↔ OutOf k h n x y
+    -- in every namespace two different mapped IDs never stand for one kernel ID
+    pub one-to-one : (k : Kind) (n x x′ y : ℕ) → OutOf k h n x y → OutOf k h n x′ y → x ≡ x′
+    -- going out gives one kernel ID, and coming back one ID
+    pub out-once : (k : Kind) (n x y y′ : ℕ) → OutOf k h n x y → OutOf k h n x y′ → y ≡ y′
+    pub back-once : (k : Kind) (n y x x′ : ℕ) → BackOf k h n y x → BackOf k h n y x′ → x ≡ x′
+    -- going out and back returns the mapped ID we began with
+    pub out-back : (k : Kind) (n x y : ℕ) → OutOf k h n x y → BackOf k h n y x
+    -- coming back from a kernel ID mapped there and going out returns that one
+    pub back-out : (k : Kind) (n x y : ℕ) → BackOf k h n y x → OutOf k h n x y
+    -- if two top-level namespaces' written maps share no kernel ID, then none that is mapped in one, or in any namespace nested at any depth
+    -- under it, is mapped in the other or in any namespace under that
+    pub disjoint : (k : Kind) (a b : ℕ) → (a ≡ b → ⊥) → TopLevel h a → TopLevel h b
+        → ((y : ℕ) → OnParentSide (writtenLines k h a) y → OnParentSide (writtenLines k h b) y → ⊥)
+        → (m n y : ℕ) → IsUnder h a m → IsUnder h b n → Stands k h m y → Stands k h n y → ⊥
+    -- if a process was in a top-level namespace, or in anything nested under it, after any call of the list, it is still in it or under it at the
+    -- list's end, and that is a top-level namespace still. The histories after the calls of the list are the parts that the whole history ends in, since the newest stands first
+    pub stays : (new old : List Event) → h ≡ new ++ old → (p b : ℕ) → isProcess old p ≡ true → TopLevel old b
+        → IsUnder old b (placeOf old p) → TopLevel h b × IsUnder h b (placeOf h p)
+    -- each kernel ID that it carries is mapped there, or was carried into it by that process or by one that it descends from
+    pub carried : (k : Kind) (p b y : ℕ) → isProcess h p ≡ true → TopLevel h b → IsUnder h b (placeOf h p) → Has y (held (heldOf k h p))
+        → Stands k h b y ⊎ ((q : ℕ) × ((q ≡ p) ⊎ Descends h p q) × Entered k h b q y)

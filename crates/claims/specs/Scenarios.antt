@@ -83,7 +83,7 @@ row leaving text = record { request = row .request; reply = row .reply; buffer =
 
 -- ---- scenarios: calls on the initial tables, and all processes and namespaces that there are to be after them, in the order of their numbers
 pub record Scenario : Type 0 where
-  pub rows : List Entry
+  pub entries : List Entry
   pub processes : List Process
   pub namespaces : List Namespace
 
@@ -128,7 +128,7 @@ firstTwo = firstProcess ∷ process 1 1000 1000 fullSet ∷ []
 
 -- a scenario whose calls after the setup change nothing but the maps of namespace 1
 abbrev pub scenario : List Entry → (Kind → IdMap) → Scenario
-scenario rows maps = record { rows = setup ++ rows; processes = firstTwo; namespaces = rootNamespace ∷ madeBy1000 maps false ∷ [] }
+scenario entries maps = record { entries = setup ++ entries; processes = firstTwo; namespaces = rootNamespace ∷ madeBy1000 maps false ∷ [] }
 
 -- where document 01 does not say which map is written, the user map is and, in a scenario of its own, the group map
 abbrev pub eachKind : (Kind → List Scenario) → List Scenario
@@ -152,7 +152,7 @@ scenarios =
     ∷ [])
     -- P: 2 writes group map `0 1000 1`: 1. After "deny": done; setgroups then 1.
     ++ (record {
-      rows = setup ++ (
+      entries = setup ++ (
           writeMap Group 2 2 "0 1000 1" ⇒ refused 1
           ∷ writeSetgroups 2 2 "deny" ⇒ done
           ∷ writeMap Group 2 2 "0 1000 1" ⇒ done
@@ -188,7 +188,7 @@ scenarios =
     ++ (scenario (unshare 2 ⇒ refused 1 ∷ []) unwritten ∷ [])
     -- P: 1 holds 21 in namespace 1; 2 does not in 0. A process in 0 with user 1000 and empty sets does in 1; with user 1001 not.
     ++ (record {
-      rows = setup ++ (
+      entries = setup ++ (
           capable 1 1 21 ⇒ yes′
           ∷ capable 2 0 21 ⇒ no′
           ∷ fork 1 ⇒ child 3
@@ -209,7 +209,7 @@ pub record Result : Type 0 where
   pub tables : State
 
 abbrev pub requests : Scenario → List Request
-requests c = map (λ (row : Entry). row .request) (c .rows)
+requests c = map (λ (e : Entry). e .request) (c .entries)
 
 abbrev pub found : Scenario → Result
 found c = record { told = history (requests c); tables = bare (run (requests c)) }
@@ -217,7 +217,7 @@ found c = record { told = history (requests c); tables = bare (run (requests c))
 -- of the 128 places for processes and the 64 for namespaces the others are free
 abbrev pub expected : Scenario → Result
 expected c = record {
-  told = reverse (c .rows);
+  told = reverse (c .entries);
   tables = record {
     processes = c .processes ++ replicate (128 - length (c .processes)) freeProcess;
     namespaces = c .namespaces ++ replicate (64 - length (c .namespaces)) freeNamespace;

@@ -7,8 +7,8 @@ use mathlib.Core.Logic.{_⊎_}
 use Rattle.idmap.specs.declared.Line.{Line}
 use Rattle.records.specs.declared.Kind.{Kind}
 use Rattle.claims.specs.Events.{Event, other, forked, cloned, unshared, joined, mapped, changed, grouped}
-use Rattle.claims.specs.Words.{isNamespace, placeOf, parentOf, linesOf, heldOf, held}
-use Rattle.claims.specs.Translation.{Pairs, Out, Back, Under}
+use Rattle.claims.specs.Words.{isNamespace, placeOf, parentOf, writtenLines, heldOf, held}
+use Rattle.claims.specs.Translation.{Pairs, GoesOut, ComesBack, Under}
 
 -- document 01: a bay is a namespace whose parent is namespace 0
 abbrev pub TopLevel : List Event → ℕ → Type 0
@@ -20,10 +20,10 @@ IsUnder h b n = Under (parentOf h) b n
 
 -- ID x of namespace n stands for kernel ID y, and the way back, with the maps of the moment
 abbrev pub OutOf : Kind → List Event → ℕ → ℕ → ℕ → Type 0
-OutOf k h n x y = Out (parentOf h) (linesOf k h) n x y
+OutOf k h n x y = GoesOut (parentOf h) (writtenLines k h) n x y
 
 abbrev pub BackOf : Kind → List Event → ℕ → ℕ → ℕ → Type 0
-BackOf k h n y x = Back (parentOf h) (linesOf k h) n y x
+BackOf k h n y x = ComesBack (parentOf h) (writtenLines k h) n y x
 
 -- kernel ID y is mapped in namespace n: some ID of n stands for it
 abbrev pub Stands : Kind → List Event → ℕ → ℕ → Type 0

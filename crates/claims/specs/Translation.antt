@@ -28,14 +28,14 @@ pub record Pairs (ls : List Line) (x z : ℕ) : Type 0 where
 -- `up n` is the parent of namespace n, and `lines n` the lines of its map
 module _ (up : ℕ → ℕ) (lines : ℕ → List Line) where
   -- going out: ID x of namespace n stands for kernel ID (document 01: station-wide ID) y
-  pub data Out : ℕ → ℕ → ℕ → Type 0 where
-    top : {n x y : ℕ} → n ≡ 0 → x ≡ y → x < noId → Out n x y
-    through : {n x y : ℕ} → (n ≡ 0 → ⊥) → (z : ℕ) → Pairs (lines n) x z → Out (up n) z y → Out n x y
+  pub data GoesOut : ℕ → ℕ → ℕ → Type 0 where
+    top : {n x y : ℕ} → n ≡ 0 → x ≡ y → x < noId → GoesOut n x y
+    through : {n x y : ℕ} → (n ≡ 0 → ⊥) → (z : ℕ) → Pairs (lines n) x z → GoesOut (up n) z y → GoesOut n x y
 
   -- coming back: kernel ID y is ID x of namespace n
-  pub data Back : ℕ → ℕ → ℕ → Type 0 where
-    bottom : {n x y : ℕ} → n ≡ 0 → x ≡ y → x < noId → Back n y x
-    down : {n x y : ℕ} → (n ≡ 0 → ⊥) → (z : ℕ) → Back (up n) y z → Pairs (lines n) x z → Back n y x
+  pub data ComesBack : ℕ → ℕ → ℕ → Type 0 where
+    bottom : {n x y : ℕ} → n ≡ 0 → x ≡ y → x < noId → ComesBack n y x
+    down : {n x y : ℕ} → (n ≡ 0 → ⊥) → (z : ℕ) → ComesBack (up n) y z → Pairs (lines n) x z → ComesBack n y x
 
   -- the same two as lookups, in k steps at most
   unfoldable pub outBy : ℕ → ℕ → ℕ → Translated
@@ -56,4 +56,4 @@ byLevels s = record {
 -- namespace n is b, or its parent is under b
 pub data Under (up : ℕ → ℕ) (b : ℕ) : ℕ → Type 0 where
   here : {n : ℕ} → n ≡ b → Under up b n
-  below : {n : ℕ} → (n ≡ 0 → ⊥) → Under up b (up n) → Under up b n
+  deeper : {n : ℕ} → (n ≡ 0 → ⊥) → Under up b (up n) → Under up b n

@@ -86,38 +86,38 @@ sameKind Group User = false
 sameKind Group Group = true
 
 -- a namespace's map is the lines of the map write for it answered 'done', unwritten until then; namespace 0's is its fixed line
-unfoldable pub mapOf : Kind → List Event → ℕ → Option (List Line)
-mapOf k [] m = cond (eqb m 0) (some (fixedLine ∷ [])) none
-mapOf k (other ∷ h) m = mapOf k h m
-mapOf k (forked c q ∷ h) m = mapOf k h m
-mapOf k (cloned c q n ∷ h) m = mapOf k h m
-mapOf k (unshared c n ∷ h) m = mapOf k h m
-mapOf k (joined c n ∷ h) m = mapOf k h m
-mapOf k (mapped j q text ∷ h) m = cond (sameKind k j && eqb m (placeOf h q)) (mapLines text) (mapOf k h m)
-mapOf k (changed j c new ∷ h) m = mapOf k h m
-mapOf k (grouped c list ∷ h) m = mapOf k h m
+unfoldable pub writtenOf : Kind → List Event → ℕ → Option (List Line)
+writtenOf k [] m = cond (eqb m 0) (some (fixedLine ∷ [])) none
+writtenOf k (other ∷ h) m = writtenOf k h m
+writtenOf k (forked c q ∷ h) m = writtenOf k h m
+writtenOf k (cloned c q n ∷ h) m = writtenOf k h m
+writtenOf k (unshared c n ∷ h) m = writtenOf k h m
+writtenOf k (joined c n ∷ h) m = writtenOf k h m
+writtenOf k (mapped j q text ∷ h) m = cond (sameKind k j && eqb m (placeOf h q)) (mapLines text) (writtenOf k h m)
+writtenOf k (changed j c new ∷ h) m = writtenOf k h m
+writtenOf k (grouped c list ∷ h) m = writtenOf k h m
 
 -- the lines of a map: none while it is unwritten
 abbrev pub orNone : Option (List Line) → List Line
 orNone none = []
 orNone (some ls) = ls
 
-abbrev pub linesOf : Kind → List Event → ℕ → List Line
-linesOf k h m = orNone (mapOf k h m)
+abbrev pub writtenLines : Kind → List Event → ℕ → List Line
+writtenLines k h m = orNone (writtenOf k h m)
 
 -- what an ID of a namespace stands for, with the maps of the moment
 abbrev pub standsFor : Kind → List Event → ℕ → ℕ → Translated
-standsFor k h n x = outBy (parentOf h) (linesOf k h) (levelOf h n) n x
+standsFor k h n x = outBy (parentOf h) (writtenLines k h) (levelOf h n) n x
 
 -- the IDs of a kind that a process carries, all station-wide: real, effective and saved, and the supplementary ones, which only groups have
 pub record Held : Type 0 where
   pub three : Ids
-  pub more : List ℕ
+  pub supplementary : List ℕ
 
 abbrev pub held : Held → List ℕ
-held c = c .three .real ∷ c .three .effective ∷ c .three .saved ∷ c .more
+held c = c .three .real ∷ c .three .effective ∷ c .three .saved ∷ c .supplementary
 
--- one of the three IDs of an ID change: 4294967295 leaves it as it is, another is what it stands for in the caller's namespace
+-- one of the three IDs of an ID change: 'no ID' leaves it as it is, another is what it stands for in the caller's namespace
 abbrev pub chosenOf : Kind → List Event → ℕ → ℕ → ℕ → Translated
 chosenOf k h n x old = cond (eqb x noId) (Id old) (standsFor k h n x)
 
@@ -131,7 +131,7 @@ changedIds k h n new old = record {
 -- a process carries the IDs that its start and its own calls not refused left it: process 1 starts with 0, 0, 0 and no groups; a fork or a
 -- clone gives the child the caller's
 unfoldable pub heldOf : Kind → List Event → ℕ → Held
-heldOf k [] p = record { three = allZero; more = [] }
+heldOf k [] p = record { three = allZero; supplementary = [] }
 heldOf k (other ∷ h) p = heldOf k h p
 heldOf k (forked c q ∷ h) p = cond (eqb p q) (heldOf k h c) (heldOf k h p)
 heldOf k (cloned c q n ∷ h) p = cond (eqb p q) (heldOf k h c) (heldOf k h p)
@@ -140,9 +140,9 @@ heldOf k (joined c n ∷ h) p = heldOf k h p
 heldOf k (mapped j q text ∷ h) p = heldOf k h p
 heldOf k (changed j c new ∷ h) p =
     cond (sameKind k j && eqb p c)
-    (record { three = changedIds k h (placeOf h c) new (heldOf k h c .three); more = heldOf k h c .more })
+    (record { three = changedIds k h (placeOf h c) new (heldOf k h c .three); supplementary = heldOf k h c .supplementary })
     (heldOf k h p)
 heldOf k (grouped c list ∷ h) p =
     cond (sameKind k Group && eqb p c)
-    (record { three = heldOf k h c .three; more = map (λ (x : ℕ). orNoId (standsFor Group h (placeOf h c) x)) list })
+    (record { three = heldOf k h c .three; supplementary = map (λ (x : ℕ). orNoId (standsFor Group h (placeOf h c) x)) list })
     (heldOf k h p)

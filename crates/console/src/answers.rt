@@ -1,6 +1,6 @@
 // Answers as lines of output.
-use crate::output::put;
 use crate::output::put_byte;
+use crate::output::put_bytes;
 use crate::output::put_number;
 use crate::output::put_quoted;
 use credentials::own::OwnIds;
@@ -10,18 +10,18 @@ use tables::answer::Answer;
 use tables::answer::Errno;
 
 pub fn malformed(out: &mut [u8], at: usize) -> usize {
-    put(out, at, b"malformed\n")
+    put_bytes(out, at, b"malformed\n")
 }
 
 fn put_errno(out: &mut [u8], at: usize, e: Errno) -> usize {
     match e {
-        Errno::EPERM => put(out, at, b"refused 1 EPERM"),
-        Errno::ESRCH => put(out, at, b"refused 3 ESRCH"),
-        Errno::EAGAIN => put(out, at, b"refused 11 EAGAIN"),
-        Errno::EINVAL => put(out, at, b"refused 22 EINVAL"),
-        Errno::ENOSPC => put(out, at, b"refused 28 ENOSPC"),
-        Errno::ERANGE => put(out, at, b"refused 34 ERANGE"),
-        Errno::EUSERS => put(out, at, b"refused 87 EUSERS"),
+        Errno::EPERM => put_bytes(out, at, b"refused 1 EPERM"),
+        Errno::ESRCH => put_bytes(out, at, b"refused 3 ESRCH"),
+        Errno::EAGAIN => put_bytes(out, at, b"refused 11 EAGAIN"),
+        Errno::EINVAL => put_bytes(out, at, b"refused 22 EINVAL"),
+        Errno::ENOSPC => put_bytes(out, at, b"refused 28 ENOSPC"),
+        Errno::ERANGE => put_bytes(out, at, b"refused 34 ERANGE"),
+        Errno::EUSERS => put_bytes(out, at, b"refused 87 EUSERS"),
     }
 }
 
@@ -51,17 +51,17 @@ fn put_own(out: &mut [u8], at: usize, r: OwnIds) -> usize {
     let users = r.users;
     let groups = r.groups;
     let supplementary = r.supplementary;
-    let a = put(out, at, b"uid");
+    let a = put_bytes(out, at, b"uid");
     let b = put_ids(out, a, users);
-    let c = put(out, b, b" gid");
+    let c = put_bytes(out, b, b" gid");
     let d = put_ids(out, c, groups);
-    let e = put(out, d, b" groups");
+    let e = put_bytes(out, d, b" groups");
     put_groups(out, e, supplementary)
 }
 
 // A word and a number.
 fn put_named(out: &mut [u8], at: usize, name: &[u8], n: u64) -> usize {
-    let end = put(out, at, name);
+    let end = put_bytes(out, at, name);
     put_number(out, end, n)
 }
 
@@ -69,18 +69,18 @@ fn put_words(out: &mut [u8], at: usize, r: OwnIds) -> usize {
     let answer = r.answer;
     match answer {
         Answer::Refused(e) => put_errno(out, at, e),
-        Answer::Done => put(out, at, b"done"),
+        Answer::Done => put_bytes(out, at, b"done"),
         Answer::Child(p) => put_named(out, at, b"child", p),
         Answer::ChildIn(p, n) => {
             let end = put_named(out, at, b"child", p);
             put_named(out, end, b" namespace", n)
         }
         Answer::NewNamespace(n) => put_named(out, at, b"namespace", n),
-        Answer::Yes => put(out, at, b"yes"),
-        Answer::No => put(out, at, b"no"),
+        Answer::Yes => put_bytes(out, at, b"yes"),
+        Answer::No => put_bytes(out, at, b"no"),
         Answer::Length(n) => put_named(out, at, b"length", n as u64),
         Answer::Id(x) => put_named(out, at, b"id", x as u64),
-        Answer::Unmapped => put(out, at, b"unmapped"),
+        Answer::Unmapped => put_bytes(out, at, b"unmapped"),
         Answer::Own => put_own(out, at, r),
     }
 }

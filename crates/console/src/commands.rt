@@ -26,79 +26,79 @@ pub enum Command {
 }
 
 fn process_command(word: &[u8]) -> Command {
-    if tokens::same(word, b"fork") {
+    if tokens::equals(word, b"fork") {
         return Command::Fork;
     }
-    if tokens::same(word, b"clone") {
+    if tokens::equals(word, b"clone") {
         return Command::Clone;
     }
-    if tokens::same(word, b"unshare") {
+    if tokens::equals(word, b"unshare") {
         return Command::Unshare;
     }
-    if tokens::same(word, b"setns") {
+    if tokens::equals(word, b"setns") {
         return Command::Setns;
     }
-    if tokens::same(word, b"fresh") {
+    if tokens::equals(word, b"fresh") {
         return Command::Fresh;
     }
     Command::Unknown
 }
 
 fn mapping_command(word: &[u8]) -> Command {
-    if tokens::same(word, b"write-uid-map") {
+    if tokens::equals(word, b"write-uid-map") {
         return Command::WriteMap(Kind::User);
     }
-    if tokens::same(word, b"write-gid-map") {
+    if tokens::equals(word, b"write-gid-map") {
         return Command::WriteMap(Kind::Group);
     }
-    if tokens::same(word, b"write-setgroups") {
+    if tokens::equals(word, b"write-setgroups") {
         return Command::WriteSetgroups;
     }
-    if tokens::same(word, b"read-uid-map") {
+    if tokens::equals(word, b"read-uid-map") {
         return Command::ReadMap(Kind::User);
     }
-    if tokens::same(word, b"read-gid-map") {
+    if tokens::equals(word, b"read-gid-map") {
         return Command::ReadMap(Kind::Group);
     }
-    if tokens::same(word, b"read-setgroups") {
+    if tokens::equals(word, b"read-setgroups") {
         return Command::ReadSetgroups;
     }
     Command::Unknown
 }
 
 fn credentials_command(word: &[u8]) -> Command {
-    if tokens::same(word, b"setresuid") {
+    if tokens::equals(word, b"setresuid") {
         return Command::SetIds(Kind::User);
     }
-    if tokens::same(word, b"setresgid") {
+    if tokens::equals(word, b"setresgid") {
         return Command::SetIds(Kind::Group);
     }
-    if tokens::same(word, b"setgroups") {
+    if tokens::equals(word, b"setgroups") {
         return Command::SetGroups;
     }
-    if tokens::same(word, b"capable") {
+    if tokens::equals(word, b"capable") {
         return Command::Capable;
     }
-    if tokens::same(word, b"capset") {
+    if tokens::equals(word, b"capset") {
         return Command::Drop;
     }
-    if tokens::same(word, b"getids") {
+    if tokens::equals(word, b"getids") {
         return Command::OwnIds;
     }
     Command::Unknown
 }
 
 fn translate_command(word: &[u8]) -> Command {
-    if tokens::same(word, b"translate-uid-out") {
+    if tokens::equals(word, b"translate-uid-out") {
         return Command::Translate(Kind::User, Way::Out);
     }
-    if tokens::same(word, b"translate-uid-back") {
+    if tokens::equals(word, b"translate-uid-back") {
         return Command::Translate(Kind::User, Way::Back);
     }
-    if tokens::same(word, b"translate-gid-out") {
+    if tokens::equals(word, b"translate-gid-out") {
         return Command::Translate(Kind::Group, Way::Out);
     }
-    if tokens::same(word, b"translate-gid-back") {
+    if tokens::equals(word, b"translate-gid-back") {
         return Command::Translate(Kind::Group, Way::Back);
     }
     Command::Unknown

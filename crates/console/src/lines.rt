@@ -205,7 +205,7 @@ fn fresh_line(t: &mut Tables, line: &[u8], from: usize, out: &mut [u8], at: usiz
         return answers::malformed(out, at);
     }
     tables::initial::initial(t);
-    output::put(out, at, b"fresh\n")
+    output::put_bytes(out, at, b"fresh\n")
 }
 
 // Answers a line, and writes nothing for a comment and for a blank one.

@@ -90,7 +90,7 @@ enum Brought {
 }
 
 // One read of the input, and the lines that it completes.
-fn turn(
+fn read_once(
     t: &mut Tables,
     line: &mut [u8],
     have: usize,
@@ -119,7 +119,7 @@ fn serve(t: &mut Tables, line: &mut [u8], scratch: &mut [u8], out: &mut [u8]) {
     let mut have: usize = 0;
     let mut turns: u64 = 18446744073709551615;
     while turns > 0 {
-        let Brought::Have(n) = turn(t, line, have, scratch, out) else {
+        let Brought::Have(n) = read_once(t, line, have, scratch, out) else {
             finish(t, line, have, scratch, out);
             return;
         };

@@ -21,7 +21,7 @@ pub fn put_byte(out: &mut [u8], at: usize, b: u8) -> usize {
     1
 }
 
-pub fn put(out: &mut [u8], at: usize, text: &[u8]) -> usize {
+pub fn put_bytes(out: &mut [u8], at: usize, text: &[u8]) -> usize {
     let mut end = at;
     let mut i: usize = 0;
     while i < text.len() {
@@ -37,23 +37,23 @@ pub fn put_number(out: &mut [u8], at: usize, n: u64) -> usize {
     let mut digits = [0u8; 20];
     let k = io::decimal(n, &mut digits);
     let end = put_byte(out, at, b' ');
-    put(out, end, &digits[..k])
+    put_bytes(out, end, &digits[..k])
 }
 
 // A byte outside of the printed ones, by its number.
 fn put_hexadecimal(out: &mut [u8], at: usize, b: u8) -> usize {
     let mut digits = [0u8; 16];
     let k = io::hex(b as u64, 2, &mut digits);
-    let end = put(out, at, b"\\x");
-    put(out, end, &digits[..k])
+    let end = put_bytes(out, at, b"\\x");
+    put_bytes(out, end, &digits[..k])
 }
 
 fn put_escaped(out: &mut [u8], at: usize, b: u8) -> usize {
     match b {
-        b'\n' => put(out, at, b"\\n"),
-        b'\t' => put(out, at, b"\\t"),
-        b'"' => put(out, at, b"\\\""),
-        b'\\' => put(out, at, b"\\\\"),
+        b'\n' => put_bytes(out, at, b"\\n"),
+        b'\t' => put_bytes(out, at, b"\\t"),
+        b'"' => put_bytes(out, at, b"\\\""),
+        b'\\' => put_bytes(out, at, b"\\\\"),
         32..=126 => put_byte(out, at, b),
         _ => put_hexadecimal(out, at, b),
     }
@@ -61,7 +61,7 @@ fn put_escaped(out: &mut [u8], at: usize, b: u8) -> usize {
 
 // A text in quotes, after a space.
 pub fn put_quoted(out: &mut [u8], at: usize, text: &[u8]) -> usize {
-    let mut end = put(out, at, b" \"");
+    let mut end = put_bytes(out, at, b" \"");
     let mut i: usize = 0;
     while i < text.len() {
         let b = text[i];

@@ -50,7 +50,7 @@ pub fn word_at(line: &[u8], from: usize) -> Word
     }
 }
 
-pub fn same(a: &[u8], b: &[u8]) -> bool {
+pub fn equals(a: &[u8], b: &[u8]) -> bool {
     if a.len() != b.len() {
         return false;
     }

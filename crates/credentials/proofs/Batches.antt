@@ -11,10 +11,10 @@ use borrow.Author.Needs.{needs}
 use borrow.Author.Tests.{eq-eqb, ne-eqb}
 use Rattle.prelude.proofs.Tests.{by-test}
 use Rattle.prelude.proofs.Lists.{MadeTo, made-starts, made-all, made-step, made-back, made-ends}
+use Rattle.prelude.proofs.Made.{tab-all}
 use Rattle.idmap.specs.Good.{noId}
 use Rattle.records.specs.declared.Ids.{Ids}
 use Rattle.records.specs.declared.GroupList.{GroupList}
-use Rattle.rows.proofs.Lists.{tab-all}
 use Rattle.credentials.specs.Calls.{groupList}
 use Rattle.credentials.specs.Batch.{batchOf, ownBatch, missingOf, missingIn, allIds}
 

@@ -11,9 +11,9 @@ use lib.Seq.{take-at}
 use borrow.Author.Needs.{needs}
 use borrow.Author.Tests.{lt-ltb, le-ltb}
 use Rattle.prelude.proofs.Tests.{by-test}
+use Rattle.prelude.specs.Lists.{consOf, allOf}
 use Rattle.idmap.specs.Good.{noId}
 use Rattle.idmap.specs.Lookup.{idOr}
-use Rattle.idmap.specs.Text.{consOf, allOf}
 use Rattle.records.specs.declared.Kind.the-variants.{Group}
 use Rattle.records.specs.declared.GroupList.{GroupList}
 use Rattle.records.specs.declared.Process.{Process}

@@ -6,12 +6,12 @@ use mathlib.Core.List.{List, [], _++_, map}
 use mathlib.Core.Option.{Option, none, some}
 use lib.Dec.{eqb, ltb}
 use lib.ListN.{length, take, replicate}
+use Rattle.prelude.specs.Lists.{allOf}
 use Rattle.capability.specs.Sets.{emptySet, isWithin}
 use Rattle.idmap.specs.declared.Translated.{Translated}
 use Rattle.idmap.specs.declared.Translated.the-variants.{Id, Unmapped}
 use Rattle.idmap.specs.Good.{noId}
 use Rattle.idmap.specs.Lookup.{idOr}
-use Rattle.idmap.specs.Text.{allOf}
 use Rattle.records.specs.declared.Kind.{Kind}
 use Rattle.records.specs.declared.Kind.the-variants.{User, Group}
 use Rattle.records.specs.declared.Ids.{Ids}

@@ -5,7 +5,7 @@ use mathlib.Core.Bool.{Bool, true, false, cond}
 use mathlib.Core.List.{List, _∷_}
 use lib.ListN.{length, getD}
 use Rattle.prelude.specs.Parts.{putAt}
-use Rattle.rows.specs.Rows.{tab}
+use Rattle.prelude.specs.Lists.{tab}
 use Rattle.records.specs.declared.Ids.{Ids}
 use Rattle.records.specs.declared.GroupList.{GroupList}
 use Rattle.tables.specs.declared.answer.Answer.{Answer}

@@ -13,6 +13,7 @@ use Rattle.idmap.specs.declared.Line.{Line}
 use Rattle.idmap.specs.declared.Translated.{Translated}
 use Rattle.idmap.specs.declared.Translated.the-variants.{Id, Unmapped}
 use Rattle.idmap.specs.Good.{noId}
+use Rattle.idmap.specs.Batch.{batchSize}
 use Rattle.idmap.specs.Lookup.{out, thenId, back, idOr}
 use Rattle.idmap.specs.Batch.{outEach, backEach}
 use Rattle.records.specs.declared.Kind.{Kind}
@@ -70,16 +71,16 @@ module _ (f : ℕ → Translated) (other : ℕ) (ids : List ℕ) where
     pub knows-next : Knows f other k
     knows-next = found-at f other last k (getD ids i 0) knows e .1
 
-    pub singly-step : SinglyTo f other ids r i → length r ≡ 20 → length ids ≡ 20 → i < 20 → SinglyTo f other ids (set r i (k .found)) (i + 1)
+    pub singly-step : SinglyTo f other ids r i → length r ≡ batchSize → length ids ≡ batchSize → i < batchSize → SinglyTo f other ids (set r i (k .found)) (i + 1)
     unfolding SinglyTo eachBy
     singly-step inv long same h =
         let one : ℕ → ℕ = λ x. idOr other (f x) in
         let at : k .found ≡ getD (map one ids) i (one 0) = found-at f other last k (getD ids i 0) knows e .0 ∙ sym (List·getD-map one ids i 0) in
-        ap (λ (w : ℕ). take (i + 1) (set r i w)) at ∙ copy-step (map one ids) r i 20 inv long (length-map ids one ∙ same) (one 0) h
+        ap (λ (w : ℕ). take (i + 1) (set r i w)) at ∙ copy-step (map one ids) r i batchSize inv long (length-map ids one ∙ same) (one 0) h
 
-  pub singly-all : (r : List ℕ) (i : ℕ) → SinglyTo f other ids r i → length r ≡ 20 → length ids ≡ 20 → 20 ≤ i → r ≡ eachBy f other ids
+  pub singly-all : (r : List ℕ) (i : ℕ) → SinglyTo f other ids r i → length r ≡ batchSize → length ids ≡ batchSize → batchSize ≤ i → r ≡ eachBy f other ids
   unfolding SinglyTo eachBy
-  singly-all r i inv long same h = copy-all (map (λ (x : ℕ). idOr other (f x)) ids) r i 20 inv long (length-map ids (λ (x : ℕ). idOr other (f x)) ∙ same) h
+  singly-all r i inv long same h = copy-all (map (λ (x : ℕ). idOr other (f x)) ids) r i batchSize inv long (length-map ids (λ (x : ℕ). idOr other (f x)) ∙ same) h
 
 -- ---- or_else, without_no_id
 pub or-other : (other id found : ℕ) → id ≡ noId → other ≡ orElse other id found
@@ -96,14 +97,14 @@ module _ (other : ℕ) (ids found r : List ℕ) where
   unfolding OrElseTo
   or-else-starts = refl
 
-  module _ (i : ℕ) (inv : OrElseTo other ids found r i) (long : length r ≡ 20) (one : length ids ≡ 20) (two : length found ≡ 20) where
-    pub or-else-step : (v : ℕ) → i < 20 → v ≡ orElse other (getD ids i 0) (getD found i 0) → OrElseTo other ids found (set r i v) (i + 1)
+  module _ (i : ℕ) (inv : OrElseTo other ids found r i) (long : length r ≡ batchSize) (one : length ids ≡ batchSize) (two : length found ≡ batchSize) where
+    pub or-else-step : (v : ℕ) → i < batchSize → v ≡ orElse other (getD ids i 0) (getD found i 0) → OrElseTo other ids found (set r i v) (i + 1)
     unfolding OrElseTo
-    or-else-step v h e = zip-step (orElse other) ids found r i 20 inv long one two 0 0 v h e
+    or-else-step v h e = zip-step (orElse other) ids found r i batchSize inv long one two 0 0 v h e
 
-    pub or-else-all : 20 ≤ i → r ≡ zipWith (orElse other) ids found
+    pub or-else-all : batchSize ≤ i → r ≡ zipWith (orElse other) ids found
     unfolding OrElseTo
-    or-else-all h = zip-all (orElse other) ids found r i 20 inv long one two h
+    or-else-all h = zip-all (orElse other) ids found r i batchSize inv long one two h
 
 -- ---- to_kernel_each, from_kernel_each
 -- two functions that agree at each ID agree at all of them

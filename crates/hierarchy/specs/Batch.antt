@@ -1,4 +1,4 @@
--- Translation of twenty IDs at once by lifted maps: what the code does. NOT to be believed: it is the translation of specs/Lifted.antt of each of them.
+-- Translation of a batch of IDs by lifted maps: what the code does. NOT to be believed: it is the translation of specs/Lifted.antt of each of them.
 -- Assumes nothing.
 use Prim.Native.Nat.{ℕ}
 use mathlib.Core.Bool.{Bool, true, false, cond}

@@ -1,4 +1,4 @@
-// Translation of twenty IDs at once between a namespace and the initial one.
+// Translation of a batch of IDs between a namespace and the initial one.
 ghost use mathlib.Core.Path.{_≡_};
 ghost use mathlib.Core.List.{zipWith};
 ghost use Rattle.idmap.specs.Line.{linesIn};
@@ -8,6 +8,7 @@ use crate::translate::from_kernel_by;
 use crate::translate::to_kernel_by;
 use idmap::NO_ID;
 use idmap::Translated;
+use idmap::batch::BATCH_SIZE;
 use idmap::batch::Batch;
 use idmap::batch::lookup_back_each;
 use idmap::batch::lookup_out_each;
@@ -82,9 +83,9 @@ fn singly(
         id: 0,
         found: id_or(turned_by(t, kind, backward, lines, base, place, 0), other),
     };
-    let mut r: Batch = [0; 20];
+    let mut r: Batch = [0; BATCH_SIZE];
     let mut i: usize = 0;
-    while i < 20 {
+    while i < BATCH_SIZE {
         last = known_for(t, kind, backward, lines, base, place, ids[i], other, last);
         r[i] = last.found;
         i += 1;
@@ -105,7 +106,7 @@ fn without_no_id(ids: Batch, found: Batch, other: u32) -> Batch
 {
     let mut r = found;
     let mut i: usize = 0;
-    while i < 20 {
+    while i < BATCH_SIZE {
         r[i] = or_else(ids[i], found[i], other);
         i += 1;
     }

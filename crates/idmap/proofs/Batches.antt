@@ -11,9 +11,9 @@ use Rattle.prelude.proofs.Lists.{zip-map, zip-step, zip-all}
 use Rattle.idmap.specs.declared.Line.{Line}
 use Rattle.idmap.specs.declared.Translated.{Translated}
 use Rattle.idmap.specs.declared.Translated.the-variants.{Id}
-use Rattle.idmap.specs.Line.{lineAt, linesIn}
+use Rattle.idmap.specs.Line.{lineWords, lineAt, linesIn}
 use Rattle.idmap.specs.Lookup.{out, idOr, facingOf}
-use Rattle.idmap.specs.Batch.{movedOr, outEach}
+use Rattle.idmap.specs.Batch.{batchSize, movedOr, outEach}
 use Rattle.idmap.proofs.Words.{lines-step, lines-end}
 use Rattle.idmap.proofs.Lookups.{less-is}
 
@@ -25,7 +25,7 @@ module _ (l : Line) (id other d : ℕ) (e : (d + l .inside) % 2 ^ 32 ≡ id) (h 
   pub moved-miss : l .count ≤ d → other ≡ movedOr l id other
   moved-miss n = rw (← less-is id (l .inside) d e h k, le-ltb d (l .count) n)
 
--- ---- through: the first i of twenty are in place
+-- ---- through: the first i are in place
 pub Through : Line → List ℕ → List ℕ → List ℕ → ℕ → Type 0
 Through l ids found r i = take i r ≡ take i (zipWith (movedOr l) ids found)
 
@@ -34,18 +34,18 @@ module _ (l : Line) (ids found r : List ℕ) where
   unfolding Through
   through-starts = refl
 
-  module _ (i : ℕ) (inv : Through l ids found r i) (long : length r ≡ 20) (one : length ids ≡ 20) (other : length found ≡ 20) where
-    pub through-step : (v : ℕ) → i < 20 → v ≡ movedOr l (getD ids i 0) (getD found i 0) → Through l ids found (set r i v) (i + 1)
+  module _ (i : ℕ) (inv : Through l ids found r i) (long : length r ≡ batchSize) (one : length ids ≡ batchSize) (other : length found ≡ batchSize) where
+    pub through-step : (v : ℕ) → i < batchSize → v ≡ movedOr l (getD ids i 0) (getD found i 0) → Through l ids found (set r i v) (i + 1)
     unfolding Through
-    through-step v h e = zip-step (movedOr l) ids found r i 20 inv long one other 0 0 v h e
+    through-step v h e = zip-step (movedOr l) ids found r i batchSize inv long one other 0 0 v h e
 
-    pub through-all : 20 ≤ i → r ≡ zipWith (movedOr l) ids found
+    pub through-all : batchSize ≤ i → r ≡ zipWith (movedOr l) ids found
     unfolding Through
-    through-all h = zip-all (movedOr l) ids found r i 20 inv long one other h
+    through-all h = zip-all (movedOr l) ids found r i batchSize inv long one other h
 
 -- ---- first_each: what the lines from line i on make of the IDs
 pub eachFrom : Bool → ℕ → List ℕ → ℕ → List ℕ → List ℕ
-eachFrom b other ws i ids = outEach other (map (facingOf b) (linesIn (drop (i * 3) ws))) ids
+eachFrom b other ws i ids = outEach other (map (facingOf b) (linesIn (drop (i * lineWords) ws))) ids
 
 map-same : (other : ℕ) (ids : List ℕ) → replicate (length ids) other ≡ map (λ (x : ℕ). other) ids
 map-same other [] = refl
@@ -63,20 +63,20 @@ each-cons other l ls ids =
     ∙ simp id-or-cond
 
 module _ (b : Bool) (other : ℕ) (ws ids : List ℕ) where
-  pub each-starts : length ids ≡ 20 → replicate 20 other ≡ eachFrom b other ws (length ws / 3) ids
+  pub each-starts : length ids ≡ batchSize → replicate batchSize other ≡ eachFrom b other ws (length ws / lineWords) ids
   unfolding eachFrom outEach out
   each-starts long =
-      rw (lines-end ws (length ws / 3 * 3) (omega arith)) (ap (λ (n : ℕ). replicate n other) (sym long) ∙ map-same other ids)
+      rw (lines-end ws (length ws / lineWords * lineWords) (omega arith)) (ap (λ (n : ℕ). replicate n other) (sym long) ∙ map-same other ids)
 
-  pub each-step : (i : ℕ) (found next : List ℕ) (w l : Line) → found ≡ eachFrom b other ws i ids → 0 < i → i * 3 ≤ length ws → w ≡ lineAt ws ((i - 1) * 3) → l ≡ facingOf b w
+  pub each-step : (i : ℕ) (found next : List ℕ) (w l : Line) → found ≡ eachFrom b other ws i ids → 0 < i → i * lineWords ≤ length ws → w ≡ lineAt ws ((i - 1) * lineWords) → l ≡ facingOf b w
       → next ≡ zipWith (movedOr l) ids found → next ≡ eachFrom b other ws (i - 1) ids
   unfolding eachFrom
   each-step i found next w l inv h k read at e =
-      let q : (i - 1) * 3 + 3 ≡ i * 3 = omega arith in
+      let q : (i - 1) * lineWords + lineWords ≡ i * lineWords = omega arith in
       e
       ∙ ap (zipWith (movedOr l) ids) inv
-      ∙ each-cons other l (map (facingOf b) (linesIn (drop (i * 3) ws))) ids
-      ∙ sym (rw (lines-step ws ((i - 1) * 3) (omega arith), q, ← read, ← at))
+      ∙ each-cons other l (map (facingOf b) (linesIn (drop (i * lineWords) ws))) ids
+      ∙ sym (rw (lines-step ws ((i - 1) * lineWords) (omega arith), q, ← read, ← at))
 
   pub each-ends : (i : ℕ) (found : List ℕ) → found ≡ eachFrom b other ws i ids → i ≤ 0 → found ≡ outEach other (map (facingOf b) (linesIn ws)) ids
   unfolding eachFrom

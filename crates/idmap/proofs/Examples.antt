@@ -4,12 +4,13 @@ use mathlib.Core.Bool.{true, false}
 use mathlib.Core.List.{[], _∷_}
 use mathlib.Core.Option.{none, some}
 use Prim.Native.Nat.{ℕ}
+use Rattle.prelude.specs.Lists.{consOf, allOf}
 use Rattle.idmap.specs.declared.Line.{Line}
 use Rattle.idmap.specs.declared.Translated.the-variants.{Id, Unmapped}
 use Rattle.idmap.specs.Lookup.{out, back, reachOf}
 use Rattle.idmap.specs.Good.{fitsOf, boundedOf, apartSide, apartOf, allApart, goodOf}
 use Rattle.idmap.specs.Cover.{coveredIn, coveredOf}
-use Rattle.idmap.specs.Text.{pieces, filled, consOf, allOf, allDigits, decimal, numberOf, numbersOf, threeOf, lineOf, textLines, checked, mapLines}
+use Rattle.idmap.specs.Text.{pieces, filled, allDigits, decimal, decimalOf, numbersOf, threeOf, lineOf, textLines, checked, mapLines}
 
 abbrev line : ℕ → ℕ → ℕ → Line
 line a b c = record { inside = a; parent = b; count = c }
@@ -47,10 +48,10 @@ ends-only = refl
 
 -- "0 100000 10\n10 100010 5"
 two-lines : mapLines (48 ∷ 32 ∷ 49 ∷ 48 ∷ 48 ∷ 48 ∷ 48 ∷ 48 ∷ 32 ∷ 49 ∷ 48 ∷ 10 ∷ 49 ∷ 48 ∷ 32 ∷ 49 ∷ 48 ∷ 48 ∷ 48 ∷ 49 ∷ 48 ∷ 32 ∷ 53 ∷ []) ≡ some (line 0 100000 10 ∷ line 10 100010 5 ∷ [])
-unfolding pieces filled consOf allOf allDigits decimal numberOf numbersOf threeOf lineOf textLines checked mapLines fitsOf boundedOf apartSide apartOf allApart goodOf
+unfolding pieces filled consOf allOf allDigits decimal decimalOf numbersOf threeOf lineOf textLines checked mapLines fitsOf boundedOf apartSide apartOf allApart goodOf
 two-lines = refl
 
 -- "0 100000 10\n20 100009 5": the lines overlap on the parent side
 parents-meet : mapLines (48 ∷ 32 ∷ 49 ∷ 48 ∷ 48 ∷ 48 ∷ 48 ∷ 48 ∷ 32 ∷ 49 ∷ 48 ∷ 10 ∷ 50 ∷ 48 ∷ 32 ∷ 49 ∷ 48 ∷ 48 ∷ 48 ∷ 48 ∷ 57 ∷ 32 ∷ 53 ∷ []) ≡ none
-unfolding pieces filled consOf allOf allDigits decimal numberOf numbersOf threeOf lineOf textLines checked mapLines fitsOf boundedOf apartSide apartOf allApart goodOf
+unfolding pieces filled consOf allOf allDigits decimal decimalOf numbersOf threeOf lineOf textLines checked mapLines fitsOf boundedOf apartSide apartOf allApart goodOf
 parents-meet = refl

@@ -10,9 +10,11 @@ use lib.ListN.{take, drop, take-append-drop}
 use lib.Dec.{leb}
 use borrow.Author.Tests.{ne-eqb, leb-true}
 use Rattle.idmap.specs.Good.{noId}
-use Rattle.idmap.specs.Text.{isBlank, isDigit, longer, pieces, filled, consOf, allOf, allDigits, decimal, numberOf, numbersOf}
-use Rattle.idmap.specs.Scan.{run, value}
+use Rattle.idmap.specs.Text.{isBlank, isDigit, longer, pieces, filled, allDigits, decimal, decimalOf, numbersOf}
+use Rattle.idmap.specs.Scan.{span, value}
 use Rattle.prelude.proofs.Tests.{by-test, both}
+use Rattle.prelude.proofs.Made.{cons-none}
+use Rattle.prelude.specs.Lists.{consOf, allOf}
 
 -- a digit is no blank
 digit-solid : (c : ℕ) → isDigit c ≡ true → isBlank c ≡ false
@@ -50,19 +52,19 @@ unfolding pieces
 first-solid c s b = rw b (longer-first c (pieces isBlank s))
 
 -- ---- the digits at the front
-digits-front : (s : List ℕ) → allDigits (take (run isDigit s) s) ≡ true
-unfolding allDigits run
+digits-front : (s : List ℕ) → allDigits (take (span isDigit s) s) ≡ true
+unfolding allDigits span
 digits-front [] = refl
 digits-front (c ∷ s) = by-test (isDigit c) (λ t. rw (t, t) (digits-front s)) (λ t. rw t)
 
-decimal-front : (v : ℕ) (s : List ℕ) → decimal v (take (run isDigit s) s) ≡ value v s
-unfolding decimal run value
+decimal-front : (v : ℕ) (s : List ℕ) → decimal v (take (span isDigit s) s) ≡ value v s
+unfolding decimal span value
 decimal-front v [] = refl
 decimal-front v (c ∷ s) = by-test (isDigit c) (λ t. rw t (decimal-front (v * 10 + (c - 48)) s)) (λ t. rw t)
 
 -- the number that they are
-pub number-front : (s : List ℕ) → numberOf (take (run isDigit s) s) ≡ cond (leb (value 0 s) noId) (some (value 0 s)) none
-unfolding numberOf
+pub number-front : (s : List ℕ) → decimalOf (take (span isDigit s) s) ≡ cond (leb (value 0 s) noId) (some (value 0 s)) none
+unfolding decimalOf
 number-front s = rw (digits-front s, decimal-front 0 s)
 
 -- ---- pieces after digits
@@ -92,8 +94,8 @@ numbers-blank : (c : ℕ) (s : List ℕ) → isBlank c ≡ true → numbersOf (c
 unfolding numbersOf pieces filled
 numbers-blank c s b = rw b
 
-pub numbers-skip : (s : List ℕ) → numbersOf s ≡ numbersOf (drop (run isBlank s) s)
-unfolding run
+pub numbers-skip : (s : List ℕ) → numbersOf s ≡ numbersOf (drop (span isBlank s) s)
+unfolding span
 numbers-skip [] = refl
 numbers-skip (c ∷ s) = by-test (isBlank c) (λ t. rw t (numbers-blank c s t ∙ numbers-skip s)) (λ t. rw t)
 
@@ -107,12 +109,12 @@ unfolding allDigits
 not-digits [] c s d = rw d
 not-digits (a ∷ w) c s d = rw (not-digits w c s d) (and-false (isDigit a))
 
-not-number : (w : List ℕ) (c : ℕ) (s : List ℕ) → isDigit c ≡ false → numberOf (w ++ (c ∷ s)) ≡ none
-unfolding numberOf
+not-number : (w : List ℕ) (c : ℕ) (s : List ℕ) → isDigit c ≡ false → decimalOf (w ++ (c ∷ s)) ≡ none
+unfolding decimalOf
 not-number w c s d = rw (not-digits w c s d)
 
 -- the first field of what starts with no blank
-numbers-solid : (c : ℕ) (s : List ℕ) → isBlank c ≡ false → numbersOf (c ∷ s) ≡ consOf (numberOf (c ∷ firstOf (pieces isBlank s))) (allOf numberOf (filled (laterOf (pieces isBlank s))))
+numbers-solid : (c : ℕ) (s : List ℕ) → isBlank c ≡ false → numbersOf (c ∷ s) ≡ consOf (decimalOf (c ∷ firstOf (pieces isBlank s))) (allOf decimalOf (filled (laterOf (pieces isBlank s))))
 unfolding numbersOf pieces allOf
 numbers-solid c s b = rw (b, filled-longer c (pieces isBlank s))
 
@@ -122,7 +124,7 @@ numbers-other c s b d = numbers-solid c s b ∙ rw (not-number [] c (firstOf (pi
 
 -- what starts with no blank has a number, or none is to be had
 pub numbers-more : (c : ℕ) (s : List ℕ) → isBlank c ≡ false → (o : Option ℕ) × (os : Option (List ℕ)) × (numbersOf (c ∷ s) ≡ consOf o os)
-numbers-more c s b = (numberOf (c ∷ firstOf (pieces isBlank s)), allOf numberOf (filled (laterOf (pieces isBlank s))), numbers-solid c s b)
+numbers-more c s b = (decimalOf (c ∷ firstOf (pieces isBlank s)), allOf decimalOf (filled (laterOf (pieces isBlank s))), numbers-solid c s b)
 
 -- ---- the digits at the front are the first number
 -- no digit stands at the front
@@ -130,44 +132,39 @@ abbrev Stopped : List ℕ → Type 0
 Stopped [] = Unit {0}
 Stopped (c ∷ s) = isDigit c ≡ false
 
-run-stopped : (s : List ℕ) → Stopped (drop (run isDigit s) s)
-unfolding run
-run-stopped [] = tt
-run-stopped (c ∷ s) = by-test (isDigit c) (λ t. rw t (run-stopped s)) (λ t. rw t t)
-
-cons-none : {A : Type 0} (a : Option A) → consOf a none ≡ none
-unfolding consOf
-cons-none none = refl
-cons-none (some a) = refl
+span-stopped : (s : List ℕ) → Stopped (drop (span isDigit s) s)
+unfolding span
+span-stopped [] = tt
+span-stopped (c ∷ s) = by-test (isDigit c) (λ t. rw t (span-stopped s)) (λ t. rw t t)
 
 module _ (c : ℕ) (w : List ℕ) (d : allDigits (c ∷ w) ≡ true) where
-  numbers-after : (v : List ℕ) → numbersOf (c ∷ (w ++ v)) ≡ consOf (numberOf (c ∷ (w ++ firstOf (pieces isBlank v)))) (allOf numberOf (filled (laterOf (pieces isBlank v))))
+  numbers-after : (v : List ℕ) → numbersOf (c ∷ (w ++ v)) ≡ consOf (decimalOf (c ∷ (w ++ firstOf (pieces isBlank v)))) (allOf decimalOf (filled (laterOf (pieces isBlank v))))
   unfolding numbersOf allOf
-  numbers-after v = ap (allOf numberOf) (fields-after v c w d)
+  numbers-after v = ap (allOf decimalOf) (fields-after v c w d)
 
   numbers-spoilt : (b : ℕ) (v : List ℕ) → isBlank b ≡ false → isDigit b ≡ false → numbersOf (c ∷ (w ++ (b ∷ v))) ≡ none
   unfolding consOf
   numbers-spoilt b v y t =
       numbers-after (b ∷ v)
-      ∙ ap (λ (n : Option ℕ). consOf n (allOf numberOf (filled (laterOf (pieces isBlank (b ∷ v))))))
-      (ap (λ (f : List ℕ). numberOf (c ∷ (w ++ f))) (first-solid b v y) ∙ not-number (c ∷ w) b (firstOf (pieces isBlank v)) t)
+      ∙ ap (λ (n : Option ℕ). consOf n (allOf decimalOf (filled (laterOf (pieces isBlank (b ∷ v))))))
+      (ap (λ (f : List ℕ). decimalOf (c ∷ (w ++ f))) (first-solid b v y) ∙ not-number (c ∷ w) b (firstOf (pieces isBlank v)) t)
 
-  numbers-digits : (v : List ℕ) → Stopped v → numbersOf (c ∷ (w ++ v)) ≡ consOf (numberOf (c ∷ w)) (numbersOf v)
+  numbers-digits : (v : List ℕ) → Stopped v → numbersOf (c ∷ (w ++ v)) ≡ consOf (decimalOf (c ∷ w)) (numbersOf v)
   unfolding numbersOf pieces filled firstOf laterOf
   numbers-digits [] t = numbers-after [] ∙ rw append-nil
   numbers-digits (b ∷ v) t =
       by-test (isBlank b)
       (λ y. numbers-after (b ∷ v) ∙ rw (y, append-nil))
-      (λ y. numbers-spoilt b v y t ∙ sym (ap (consOf (numberOf (c ∷ w))) (numbers-other b v y t) ∙ cons-none (numberOf (c ∷ w))))
+      (λ y. numbers-spoilt b v y t ∙ sym (ap (consOf (decimalOf (c ∷ w))) (numbers-other b v y t) ∙ cons-none (decimalOf (c ∷ w))))
 
-pub numbers-front : (s : List ℕ) → 0 < run isDigit s → numbersOf s ≡ consOf (numberOf (take (run isDigit s) s)) (numbersOf (drop (run isDigit s) s))
-unfolding run
+pub numbers-front : (s : List ℕ) → 0 < span isDigit s → numbersOf s ≡ consOf (decimalOf (take (span isDigit s) s)) (numbersOf (drop (span isDigit s) s))
+unfolding span
 numbers-front [] h = absurd (omega arith)
 numbers-front (c ∷ s) h =
     by-test (isDigit c)
     (λ t.
-    let r = run isDigit s in
+    let r = span isDigit s in
     let d : allDigits (c ∷ take r s) ≡ true = rw t at (digits-front (c ∷ s)) in
     let whole : c ∷ (take r s ++ drop r s) ≡ c ∷ s = ap (λ (l : List ℕ). c ∷ l) (take-append-drop r s) in
-    rw t (sym (ap numbersOf whole) ∙ numbers-digits c (take r s) d (drop r s) (run-stopped s)))
+    rw t (sym (ap numbersOf whole) ∙ numbers-digits c (take r s) d (drop r s) (span-stopped s)))
     (λ t. let k : 0 < 0 = rw t at h in absurd (omega arith))

@@ -11,14 +11,16 @@ use lib.ListN.{length, drop, getD, length-append, length-drop, drop-of-length-le
 use lib.Seq.{drop-append-le, drop-append-add, drop-drop, drop-length, drop-cons, getD-append-seam}
 use borrow.Author.Tests.{eqb-true, eqb-false, eq-eqb, ne-eqb, lt-ltb, le-ltb, ltb-true, ltb-false}
 use Rattle.idmap.specs.declared.Line.{Line}
-use Rattle.idmap.specs.declared.text.Number.{Number}
-use Rattle.idmap.specs.declared.text.Number.the-variants.{Value, NoNumber}
+use Rattle.idmap.specs.declared.text.NumberRead.{NumberRead}
+use Rattle.idmap.specs.declared.text.NumberRead.the-variants.{Value, NoNumber}
 use Rattle.idmap.specs.declared.text.LineRead.{LineRead}
 use Rattle.idmap.specs.declared.text.LineRead.the-variants.{Read, NoLine}
 use Rattle.idmap.specs.Good.{noId}
-use Rattle.idmap.specs.Text.{isNewline, isBlank, isDigit, pieces, consOf, allOf, numbersOf, threeOf, lineOf, textLines}
-use Rattle.idmap.specs.Scan.{run, value, skipped, ended, numberAt, fieldAt, lineEnd, thenNumber, scanLine}
+use Rattle.idmap.specs.Text.{isNewline, isBlank, isDigit, pieces, numbersOf, threeOf, lineOf, textLines}
+use Rattle.idmap.specs.Scan.{span, value, skipped, ended, numberAt, fieldAt, lineEnd, thenNumber, scanLine}
 use Rattle.prelude.proofs.Tests.{by-test, cond-elim}
+use Rattle.prelude.proofs.Made.{cons-first}
+use Rattle.prelude.specs.Lists.{consOf, allOf}
 use Rattle.idmap.proofs.Fields.{number-front, numbers-skip, numbers-none, numbers-other, numbers-front, numbers-more}
 
 -- ---- a text is its first line and what follows
@@ -61,11 +63,11 @@ solid-at (c ∷ l) zero s h = eqb-false c 10 (s .0)
 solid-at (c ∷ l) (suc i) s h = solid-at l i (s .1) (omega arith)
 
 -- ---- a scan stops at the line's end
-run-front : (p : ℕ → Bool) → p 10 ≡ false → (x z : List ℕ) → Ends z → run p (x ++ z) ≡ run p x
-unfolding run
-run-front p n [] z at-end = refl
-run-front p n [] z (at-newline w) = rw n
-run-front p n (c ∷ x) z e = rw (run-front p n x z e)
+span-front : (p : ℕ → Bool) → p 10 ≡ false → (x z : List ℕ) → Ends z → span p (x ++ z) ≡ span p x
+unfolding span
+span-front p n [] z at-end = refl
+span-front p n [] z (at-newline w) = rw n
+span-front p n (c ∷ x) z e = rw (span-front p n x z e)
 
 value-front : (v : ℕ) (x z : List ℕ) → Ends z → value v (x ++ z) ≡ value v x
 unfolding value
@@ -73,20 +75,20 @@ value-front v [] z at-end = refl
 value-front v [] z (at-newline w) = refl
 value-front v (c ∷ x) z e = rw (value-front (v * 10 + (c - 48)) x z e)
 
-pub run-le : (p : ℕ → Bool) (s : List ℕ) → run p s ≤ length s
-unfolding run
-run-le p [] = omega arith
-run-le p (c ∷ s) = cond-elim (λ (n : ℕ). n ≤ suc (length s)) (p c) (let h = run-le p s in omega arith) (omega arith)
+pub span-le : (p : ℕ → Bool) (s : List ℕ) → span p s ≤ length s
+unfolding span
+span-le p [] = omega arith
+span-le p (c ∷ s) = cond-elim (λ (n : ℕ). n ≤ suc (length s)) (p c) (let h = span-le p s in omega arith) (omega arith)
 
--- what stands after a run does not pass
+-- what stands after a span does not pass
 abbrev Halts : (ℕ → Bool) → List ℕ → Type 0
 Halts p [] = Unit {0}
 Halts p (c ∷ s) = p c ≡ false
 
-run-halts : (p : ℕ → Bool) (s : List ℕ) → Halts p (drop (run p s) s)
-unfolding run
-run-halts p [] = tt
-run-halts p (c ∷ s) = by-test (p c) (λ t. rw t (run-halts p s)) (λ t. rw t t)
+span-halts : (p : ℕ → Bool) (s : List ℕ) → Halts p (drop (span p s) s)
+unfolding span
+span-halts p [] = tt
+span-halts p (c ∷ s) = by-test (p c) (λ t. rw t (span-halts p s)) (λ t. rw t t)
 
 -- ---- the numbers that a line has from a place on, and the number that the scan finds there
 abbrev Few : Option (List ℕ) → Type 0
@@ -96,17 +98,17 @@ Few x = (x ≡ none) ⊎ (x ≡ some [])
 abbrev from : List ℕ → ℕ → Option (List ℕ)
 from l e = numbersOf (drop e l)
 
-abbrev Field : List ℕ → Option (List ℕ) → Number → Type 0
+abbrev Field : List ℕ → Option (List ℕ) → NumberRead → Type 0
 Field l x (Value v e) = (e ≤ length l) × (x ≡ consOf (some v) (from l e))
 Field l x NoNumber = Few x
 
 -- nothing that is a digit stands at the front, and no blank: there are no numbers
-few : (y : List ℕ) → Halts isBlank y → run isDigit y ≡ 0 → Few (numbersOf y)
-unfolding run
+few : (y : List ℕ) → Halts isBlank y → span isDigit y ≡ 0 → Few (numbersOf y)
+unfolding span
 few [] b d = inr numbers-none
 few (c ∷ y) b d =
     by-test (isDigit c)
-    (λ t. let k : suc (run isDigit y) ≡ 0 = rw t at d in absurd (omega arith))
+    (λ t. let k : suc (span isDigit y) ≡ 0 = rw t at d in absurd (omega arith))
     (λ t. inl (numbers-other c y b t))
 
 ended-none : (p e v : ℕ) → e ≡ p → ended p e v ≡ NoNumber
@@ -121,56 +123,52 @@ ended-over : (p e v : ℕ) → leb v noId ≡ false → ended p e v ≡ NoNumber
 unfolding ended
 ended-over p e v t = rw t
 
-cons-first : {A : Type 0} (r : Option (List A)) → consOf none r ≡ none
-unfolding consOf
-cons-first r = refl
-
 -- the number that stands in the line from place p on
-digits-number : (y : List ℕ) → 0 < run isDigit y → numbersOf y ≡ consOf (cond (leb (value 0 y) noId) (some (value 0 y)) none) (numbersOf (drop (run isDigit y) y))
-digits-number y k = numbers-front y k ∙ ap (λ (o : Option ℕ). consOf o (numbersOf (drop (run isDigit y) y))) (number-front y)
+digits-number : (y : List ℕ) → 0 < span isDigit y → numbersOf y ≡ consOf (cond (leb (value 0 y) noId) (some (value 0 y)) none) (numbersOf (drop (span isDigit y) y))
+digits-number y k = numbers-front y k ∙ ap (λ (o : Option ℕ). consOf o (numbersOf (drop (span isDigit y) y))) (number-front y)
 
-number-case : (l : List ℕ) (p : ℕ) → p ≤ length l → Halts isBlank (drop p l) → Field l (from l p) (ended p (p + run isDigit (drop p l)) (value 0 (drop p l)))
+number-case : (l : List ℕ) (p : ℕ) → p ≤ length l → Halts isBlank (drop p l) → Field l (from l p) (ended p (p + span isDigit (drop p l)) (value 0 (drop p l)))
 number-case l p h b =
-    by-test (eqb (p + run isDigit (drop p l)) p)
+    by-test (eqb (p + span isDigit (drop p l)) p)
     (λ t.
-    let e = eqb-true (p + run isDigit (drop p l)) p t in
-    rw (ended-none p (p + run isDigit (drop p l)) (value 0 (drop p l)) e) (few (drop p l) b (omega arith)))
-    (λ t. let n = eqb-false (p + run isDigit (drop p l)) p t in found t (digits-number (drop p l) (omega arith)))
+    let e = eqb-true (p + span isDigit (drop p l)) p t in
+    rw (ended-none p (p + span isDigit (drop p l)) (value 0 (drop p l)) e) (few (drop p l) b (omega arith)))
+    (λ t. let n = eqb-false (p + span isDigit (drop p l)) p t in found t (digits-number (drop p l) (omega arith)))
   where
-    found : eqb (p + run isDigit (drop p l)) p ≡ false → from l p ≡ consOf (cond (leb (value 0 (drop p l)) noId) (some (value 0 (drop p l))) none) (numbersOf (drop (run isDigit (drop p l)) (drop p l))) → Field l (from l p) (ended p (p + run isDigit (drop p l)) (value 0 (drop p l)))
+    found : eqb (p + span isDigit (drop p l)) p ≡ false → from l p ≡ consOf (cond (leb (value 0 (drop p l)) noId) (some (value 0 (drop p l))) none) (numbersOf (drop (span isDigit (drop p l)) (drop p l))) → Field l (from l p) (ended p (p + span isDigit (drop p l)) (value 0 (drop p l)))
     found t e =
-        let k = run-le isDigit (drop p l) in
+        let k = span-le isDigit (drop p l) in
         let m = length-drop p l in
         by-test (leb (value 0 (drop p l)) noId)
-        (λ u. rw (ended-value p (p + run isDigit (drop p l)) (value 0 (drop p l)) u t) (omega arith, rw (u, drop-drop) at e))
-        (λ u. rw (ended-over p (p + run isDigit (drop p l)) (value 0 (drop p l)) u) (inl (e ∙ rw u (cons-first (numbersOf (drop (run isDigit (drop p l)) (drop p l)))))))
+        (λ u. rw (ended-value p (p + span isDigit (drop p l)) (value 0 (drop p l)) u t) (omega arith, rw (u, drop-drop) at e))
+        (λ u. rw (ended-over p (p + span isDigit (drop p l)) (value 0 (drop p l)) u) (inl (e ∙ rw u (cons-first (numbersOf (drop (span isDigit (drop p l)) (drop p l)))))))
 
 -- ---- the line in front of what follows it
 module _ (l z : List ℕ) (ends : Ends z) where
-  skip-in : (at : ℕ) → at ≤ length l → skipped (l ++ z) at ≡ at + run isBlank (drop at l)
+  skip-in : (at : ℕ) → at ≤ length l → skipped (l ++ z) at ≡ at + span isBlank (drop at l)
   unfolding skipped
-  skip-in at h = rw (drop-append-le at l z h, run-front isBlank refl (drop at l) z ends)
+  skip-in at h = rw (drop-append-le at l z h, span-front isBlank refl (drop at l) z ends)
 
-  number-in : (p : ℕ) → p ≤ length l → numberAt (l ++ z) p ≡ ended p (p + run isDigit (drop p l)) (value 0 (drop p l))
+  number-in : (p : ℕ) → p ≤ length l → numberAt (l ++ z) p ≡ ended p (p + span isDigit (drop p l)) (value 0 (drop p l))
   unfolding numberAt
-  number-in p h = rw (drop-append-le p l z h, run-front isDigit refl (drop p l) z ends, value-front 0 (drop p l) z ends)
+  number-in p h = rw (drop-append-le p l z h, span-front isDigit refl (drop p l) z ends, value-front 0 (drop p l) z ends)
 
   -- where the blanks from a place on end
   module _ (at : ℕ) (h : at ≤ length l) where
-    past-blanks : at + run isBlank (drop at l) ≤ length l
-    past-blanks = let k = run-le isBlank (drop at l) in let m = length-drop at l in omega arith
+    past-blanks : at + span isBlank (drop at l) ≤ length l
+    past-blanks = let k = span-le isBlank (drop at l) in let m = length-drop at l in omega arith
 
-    past-halts : Halts isBlank (drop (at + run isBlank (drop at l)) l)
-    past-halts = rw drop-drop at (run-halts isBlank (drop at l))
+    past-halts : Halts isBlank (drop (at + span isBlank (drop at l)) l)
+    past-halts = rw drop-drop at (span-halts isBlank (drop at l))
 
-    past-same : from l at ≡ from l (at + run isBlank (drop at l))
-    past-same = numbers-skip (drop at l) ∙ ap numbersOf (drop-drop (run isBlank (drop at l)) at l)
+    past-same : from l at ≡ from l (at + span isBlank (drop at l))
+    past-same = numbers-skip (drop at l) ∙ ap numbersOf (drop-drop (span isBlank (drop at l)) at l)
 
     field-in : Field l (from l at) (fieldAt (l ++ z) at)
     unfolding fieldAt
     field-in =
-        rw (skip-in at h, number-in (at + run isBlank (drop at l)) past-blanks, past-same)
-        (number-case l (at + run isBlank (drop at l)) past-blanks past-halts)
+        rw (skip-in at h, number-in (at + span isBlank (drop at l)) past-blanks, past-same)
+        (number-case l (at + span isBlank (drop at l)) past-blanks past-halts)
 
 -- ---- the line: three numbers and nothing more
 few-three : (x : Option (List ℕ)) → Few x → threeOf x ≡ none
@@ -196,7 +194,7 @@ abbrev Scanned : List ℕ → List ℕ → Option Line → LineRead → Type 0
 Scanned l z o (Read m u) = (o ≡ some m) × (drop u (l ++ z) ≡ drop 1 z) × (u ≤ length (l ++ z))
 Scanned l z o NoLine = o ≡ none
 
-then-number : (l z : List ℕ) (o : Option Line) (x : Option (List ℕ)) (r : Number) (next : ℕ → ℕ → LineRead) → Field l x r
+then-number : (l z : List ℕ) (o : Option Line) (x : Option (List ℕ)) (r : NumberRead) (next : ℕ → ℕ → LineRead) → Field l x r
     → ((v e : ℕ) → e ≤ length l → x ≡ consOf (some v) (from l e) → Scanned l z o (next v e)) → (Few x → o ≡ none) → Scanned l z o (thenNumber r next)
 then-number l z o x (Value v e) next f found short = found v e (f .0) (f .1)
 then-number l z o x NoNumber next f found short = short f
@@ -229,7 +227,7 @@ module _ (l z : List ℕ) (solid : Solid l) (ends : Ends z) where
   end-case : (a b c e : ℕ) → e ≤ length l → numbersOf l ≡ consOf (some a) (consOf (some b) (consOf (some c) (from l e))) → Scanned l z (threeOf (numbersOf l)) (lineEnd (l ++ z) (skipped (l ++ z) e) (record { inside = a; parent = b; count = c }))
   unfolding threeOf consOf
   end-case a b c e h n =
-      let p = e + run isBlank (drop e l) in
+      let p = e + span isBlank (drop e l) in
       let below = past-blanks l z ends e h in
       by-test (ltb p (length l))
       (λ t.

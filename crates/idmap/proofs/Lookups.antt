@@ -11,7 +11,7 @@ use borrow.Author.Tests.{lt-ltb, le-ltb}
 use Rattle.idmap.specs.declared.Line.{Line}
 use Rattle.idmap.specs.declared.Translated.{Translated}
 use Rattle.idmap.specs.declared.Translated.the-variants.{Id, Unmapped}
-use Rattle.idmap.specs.Line.{less, inRange, lineAt, linesIn}
+use Rattle.idmap.specs.Line.{less, inRange, lineAt, linesIn, lineWords}
 use Rattle.idmap.specs.Lookup.{movedBy, out, flip, facingOf, reachOf}
 use Rattle.idmap.proofs.Words.{lines-step, lines-end}
 
@@ -38,21 +38,21 @@ module _ (b : Bool) (ws : List ℕ) (i id : ℕ) where
   unfolding outFrom
   out-starts = refl
 
-  out-step : 3 ≤ length ws - i → outFrom b ws i id ≡ out (facingOf b (lineAt ws i) ∷ map (facingOf b) (linesIn (drop (i + 3) ws))) id
+  out-step : lineWords ≤ length ws - i → outFrom b ws i id ≡ out (facingOf b (lineAt ws i) ∷ map (facingOf b) (linesIn (drop (i + lineWords) ws))) id
   unfolding outFrom
   out-step h = rw (lines-step ws i h)
 
   module _ (inv : outFrom b ws 0 id ≡ outFrom b ws i id) where
-    pub first-end : length ws - i < 3 → Unmapped ≡ out (map (facingOf b) (linesIn ws)) id
+    pub first-end : length ws - i < lineWords → Unmapped ≡ out (map (facingOf b) (linesIn ws)) id
     unfolding outFrom out
     first-end h = sym (inv ∙ rw (lines-end ws i h))
 
-    module _ (more : 3 ≤ length ws - i) (w l : Line) (read : w ≡ lineAt ws i) (at : l ≡ facingOf b w) (t : Bool) (tested : t ≡ inRange id (l .inside) (l .count)) where
+    module _ (more : lineWords ≤ length ws - i) (w l : Line) (read : w ≡ lineAt ws i) (at : l ≡ facingOf b w) (t : Bool) (tested : t ≡ inRange id (l .inside) (l .count)) where
       pub first-hit : (r : ℕ) → t ≡ true → r ≡ movedBy l id → Id r ≡ out (map (facingOf b) (linesIn ws)) id
       unfolding outFrom out
       first-hit r y m = sym (inv ∙ out-step more ∙ rw (← read, ← at, ← tested, y, ← m))
 
-      pub first-miss : t ≡ false → outFrom b ws 0 id ≡ outFrom b ws (i + 3) id
+      pub first-miss : t ≡ false → outFrom b ws 0 id ≡ outFrom b ws (i + lineWords) id
       unfolding outFrom out
       first-miss f = inv ∙ out-step more ∙ rw (← read, ← at, ← tested, f)
 
@@ -68,28 +68,28 @@ module _ (ws : List ℕ) (i id : ℕ) where
   unfolding reachFrom
   reach-starts = refl
 
-  reach-step : 3 ≤ length ws - i → reachFrom ws i id ≡ reachOf (lineAt ws i ∷ linesIn (drop (i + 3) ws)) id
+  reach-step : lineWords ≤ length ws - i → reachFrom ws i id ≡ reachOf (lineAt ws i ∷ linesIn (drop (i + lineWords) ws)) id
   unfolding reachFrom
   reach-step h = rw (lines-step ws i h)
 
   module _ (inv : reachFrom ws 0 id ≡ reachFrom ws i id) where
-    pub reach-end : length ws - i < 3 → 0 ≡ reachOf (linesIn ws) id
+    pub reach-end : length ws - i < lineWords → 0 ≡ reachOf (linesIn ws) id
     unfolding reachFrom reachOf
     reach-end h = sym (inv ∙ rw (lines-end ws i h))
 
-    module _ (more : 3 ≤ length ws - i) (l : Line) (read : l ≡ lineAt ws i) (d : ℕ) (e : (d + l .inside) % 2 ^ 32 ≡ id) (h : d < 2 ^ 32) (k : l .inside < 2 ^ 32) where
-      reach-at : reachFrom ws i id ≡ cond (ltb d (l .count)) (l .count - d) (reachFrom ws (i + 3) id)
+    module _ (more : lineWords ≤ length ws - i) (l : Line) (read : l ≡ lineAt ws i) (d : ℕ) (e : (d + l .inside) % 2 ^ 32 ≡ id) (h : d < 2 ^ 32) (k : l .inside < 2 ^ 32) where
+      reach-at : reachFrom ws i id ≡ cond (ltb d (l .count)) (l .count - d) (reachFrom ws (i + lineWords) id)
       unfolding reachFrom reachOf
       reach-at =
           reach-step more
-          ∙ ap (λ (m : Line). reachOf (m ∷ linesIn (drop (i + 3) ws)) id) (sym read)
-          ∙ ap (λ (n : ℕ). cond (ltb n (l .count)) (l .count - n) (reachFrom ws (i + 3) id)) (sym (less-is id (l .inside) d e h k))
+          ∙ ap (λ (m : Line). reachOf (m ∷ linesIn (drop (i + lineWords) ws)) id) (sym read)
+          ∙ ap (λ (n : ℕ). cond (ltb n (l .count)) (l .count - n) (reachFrom ws (i + lineWords) id)) (sym (less-is id (l .inside) d e h k))
 
       pub reach-hit : d < l .count → l .count - d ≡ reachOf (linesIn ws) id
       unfolding reachFrom
       reach-hit y = sym (inv ∙ reach-at ∙ rw (lt-ltb d (l .count) y))
 
-      pub reach-miss : l .count ≤ d → reachFrom ws 0 id ≡ reachFrom ws (i + 3) id
+      pub reach-miss : l .count ≤ d → reachFrom ws 0 id ≡ reachFrom ws (i + lineWords) id
       reach-miss n = inv ∙ reach-at ∙ rw (le-ltb d (l .count) n)
 
 pub ruleset lookups = (

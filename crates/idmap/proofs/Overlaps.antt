@@ -1,13 +1,13 @@
 -- The tests of a map's lines, turn by turn, in the words of the code. Assumes nothing.
 use mathlib.Core.Path.{_≡_, sym, _∙_}
-use mathlib.Core.Bool.{Bool, true, false, _&&_}
+use mathlib.Core.Bool.{Bool, true, false, _&&_, not}
 use mathlib.Core.List.{List}
 use Prim.Native.Nat.{ℕ, _+_, _≤_, _<_, min, max}
 use native.Mathlib.Omega.{arith}
 use lib.ListN.{length, take, drop, getD}
 use lib.Dec.{leb}
 use borrow.Author.Needs.{needs}
-use borrow.Author.Tests.{le-leb, lt-leb, lt-ltb, le-ltb}
+use borrow.Author.Tests.{le-leb, lt-leb, lt-ltb, le-ltb, not-true, not-false}
 use Rattle.idmap.specs.declared.Line.{Line}
 use Rattle.idmap.specs.Line.{noLine}
 use Rattle.idmap.specs.Good.{noId, fitsOf, boundedOf, apartSide, apartOf, allApart, goodOf}
@@ -60,11 +60,11 @@ module _ (l : Line) (ls : List Line) (n from i : ℕ) (inv : allApart l (drop fr
     unfolding allApart
     clear-at = inv ∙ rw (left-step ls n i noLine more (omega arith), sym at)
 
-    pub clear-step : t ≡ true → allApart l (drop from (take n ls)) ≡ allApart l (drop (i + 1) (take n ls))
-    clear-step y = rw y at clear-at
+    pub clear-step : not t ≡ false → allApart l (drop from (take n ls)) ≡ allApart l (drop (i + 1) (take n ls))
+    clear-step y = rw (not-false t y) at clear-at
 
-    pub clear-no : t ≡ false → false ≡ allApart l (drop from (take n ls))
-    clear-no y = sym (rw y at clear-at)
+    pub clear-no : not t ≡ true → false ≡ allApart l (drop from (take n ls))
+    clear-no y = sym (rw (not-true t y) at clear-at)
 
 -- good
 module _ (ls : List Line) (n i : ℕ) (inv : goodOf (take n ls) ≡ goodOf (drop i (take n ls))) where
@@ -81,15 +81,15 @@ module _ (ls : List Line) (n i : ℕ) (inv : goodOf (take n ls) ≡ goodOf (drop
     unfolding goodOf
     good-at = inv ∙ rw (left-step ls n i noLine more (omega arith), sym at)
 
-    pub good-out : t ≡ false → false ≡ goodOf (take n ls)
-    good-out y = sym (rw y at good-at)
+    pub good-out : not t ≡ true → false ≡ goodOf (take n ls)
+    good-out y = sym (rw (not-true t y) at good-at)
 
-    module _ (u : Bool) (clear : u ≡ allApart (getD ls i noLine) (drop (i + 1) (take n ls))) (y : t ≡ true) where
-      pub good-step : u ≡ true → goodOf (take n ls) ≡ goodOf (drop (i + 1) (take n ls))
-      good-step z = rw (y, sym clear ∙ z) at good-at
+    module _ (u : Bool) (clear : u ≡ allApart (getD ls i noLine) (drop (i + 1) (take n ls))) (y : not t ≡ false) where
+      pub good-step : not u ≡ false → goodOf (take n ls) ≡ goodOf (drop (i + 1) (take n ls))
+      good-step z = rw (not-false t y, sym clear ∙ not-false u z) at good-at
 
-      pub good-no : u ≡ false → false ≡ goodOf (take n ls)
-      good-no z = sym (rw (y, sym clear ∙ z) at good-at)
+      pub good-no : not u ≡ true → false ≡ goodOf (take n ls)
+      good-no z = sym (rw (not-false t y, sym clear ∙ not-true u z) at good-at)
 
 pub ruleset overlaps = (
   fits-second,

@@ -11,10 +11,11 @@ use lib.Seq.{append-snoc}
 use borrow.Author.Tests.{le-leb, ne-eqb, eqb-true}
 use Rattle.idmap.specs.declared.Line.{Line}
 use Rattle.idmap.specs.Good.{maxLines, noId, goodOf}
-use Rattle.idmap.specs.Text.{isDigit, pieces, consOf, allOf, numbersOf, threeOf, lineOf, textLines, checked, mapLines}
-use Rattle.idmap.specs.Scan.{run, value}
+use Rattle.idmap.specs.Text.{isDigit, pieces, numbersOf, threeOf, lineOf, textLines, checked, mapLines}
+use Rattle.idmap.specs.Scan.{span, value}
 use Rattle.idmap.specs.Show.{lastDigit, columnOf, shown, numberText, lineColumns, lineText, linesText}
 use Rattle.prelude.proofs.Tests.{by-test}
+use Rattle.prelude.specs.Lists.{consOf, allOf}
 use Rattle.idmap.proofs.FirstLine.{Solid, at-newline, first-piece}
 use Rattle.idmap.proofs.Fields.{number-front, numbers-skip, numbers-front, numbers-none}
 use Rattle.idmap.proofs.Words.{Narrow, AllNarrow}
@@ -32,7 +33,7 @@ last-digit v = rw (le-leb 48 (lastDigit v) (omega arith), le-leb (lastDigit v) 5
 
 -- a space at the front does not count
 numbers-space : (s : List ℕ) → numbersOf (32 ∷ s) ≡ numbersOf s
-unfolding run
+unfolding span
 numbers-space s = numbers-skip (32 ∷ s) ∙ sym (numbers-skip s)
 
 -- nor do the columns of zero
@@ -43,22 +44,22 @@ numbers-blank (suc k) s = rw (append-snoc (shown k 0) 32 s) (numbers-blank k (32
 
 -- v and then the digits at the front are one number, before the others
 readFrom : ℕ → List ℕ → Option (List ℕ)
-readFrom v s = consOf (cond (leb (value v s) noId) (some (value v s)) none) (numbersOf (drop (run isDigit s) s))
+readFrom v s = consOf (cond (leb (value v s) noId) (some (value v s)) none) (numbersOf (drop (span isDigit s) s))
 
-reads-zero : (s : List ℕ) → 0 < run isDigit s → numbersOf s ≡ readFrom 0 s
+reads-zero : (s : List ℕ) → 0 < span isDigit s → numbersOf s ≡ readFrom 0 s
 unfolding readFrom
 reads-zero s d = numbers-front s d ∙ rw (number-front s)
 
 reads-digit : (v : ℕ) (s : List ℕ) → readFrom (v / 10) (lastDigit v ∷ s) ≡ readFrom v s
-unfolding readFrom value run
+unfolding readFrom value span
 reads-digit v s = let e : v / 10 * 10 + (48 + v % 10 - 48) ≡ v = omega arith in rw (last-digit v, e)
 
-run-digit : (v : ℕ) (s : List ℕ) → 0 < run isDigit (lastDigit v ∷ s)
-unfolding run
-run-digit v s = rw (last-digit v) (omega arith)
+span-digit : (v : ℕ) (s : List ℕ) → 0 < span isDigit (lastDigit v ∷ s)
+unfolding span
+span-digit v s = rw (last-digit v) (omega arith)
 
 -- the columns of v are the higher digits of the number
-shown-reads : (k v : ℕ) (s : List ℕ) → v < 10 ^ k → 0 < run isDigit s → numbersOf (shown k v ++ s) ≡ readFrom v s
+shown-reads : (k v : ℕ) (s : List ℕ) → v < 10 ^ k → 0 < span isDigit s → numbersOf (shown k v ++ s) ≡ readFrom v s
 unfolding shown
 shown-reads zero v s h d = let e : v ≡ 0 = omega arith in rw e (reads-zero s d)
 shown-reads (suc k) v s h d =
@@ -66,28 +67,28 @@ shown-reads (suc k) v s h d =
     (λ e c. rw e (numbers-blank (suc k) s ∙ reads-zero s d))
     (λ c.
     rw (c, append-snoc (shown k (v / 10)) (lastDigit v) s)
-    (shown-reads k (v / 10) (lastDigit v ∷ s) (omega arith) (run-digit v s) ∙ reads-digit v s))
+    (shown-reads k (v / 10) (lastDigit v ∷ s) (omega arith) (span-digit v s) ∙ reads-digit v s))
 
 -- no digit follows
-value-none : (v : ℕ) (s : List ℕ) → run isDigit s ≡ 0 → value v s ≡ v
-unfolding run value
+value-none : (v : ℕ) (s : List ℕ) → span isDigit s ≡ 0 → value v s ≡ v
+unfolding span value
 value-none v [] e = refl
-value-none v (c ∷ s) e = by-test (isDigit c) (λ t. absurd (let z : suc (run isDigit s) ≡ 0 = rw t at e in omega arith)) (λ t. rw t)
+value-none v (c ∷ s) e = by-test (isDigit c) (λ t. absurd (let z : suc (span isDigit s) ≡ 0 = rw t at e in omega arith)) (λ t. rw t)
 
-reads-none : (v : ℕ) (s : List ℕ) → v ≤ noId → run isDigit s ≡ 0 → readFrom v s ≡ consOf (some v) (numbersOf s)
+reads-none : (v : ℕ) (s : List ℕ) → v ≤ noId → span isDigit s ≡ 0 → readFrom v s ≡ consOf (some v) (numbersOf s)
 unfolding readFrom
 reads-none v s h e = rw (value-none v s e, le-leb v noId h, e)
 
 -- the text of a number before what starts with no digit is that number
-pub number-reads : (n : ℕ) (s : List ℕ) → n ≤ noId → run isDigit s ≡ 0 → numbersOf (numberText n ++ s) ≡ consOf (some n) (numbersOf s)
+pub number-reads : (n : ℕ) (s : List ℕ) → n ≤ noId → span isDigit s ≡ 0 → numbersOf (numberText n ++ s) ≡ consOf (some n) (numbersOf s)
 unfolding numberText
 number-reads n s h e =
     rw (append-snoc (shown 9 (n / 10)) (lastDigit n) s)
-    (shown-reads 9 (n / 10) (lastDigit n ∷ s) (omega arith) (run-digit n s) ∙ reads-digit n s ∙ reads-none n s h e)
+    (shown-reads 9 (n / 10) (lastDigit n ∷ s) (omega arith) (span-digit n s) ∙ reads-digit n s ∙ reads-none n s h e)
 
 -- ---- a line's columns
 pub line-reads : (l : Line) → Narrow l → lineOf (lineColumns l) ≡ some l
-unfolding lineOf threeOf consOf lineColumns run
+unfolding lineOf threeOf consOf lineColumns span
 line-reads l h =
     let a = l .inside in
     let b = l .parent in

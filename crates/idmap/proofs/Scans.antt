@@ -13,13 +13,13 @@ use mir.Syntax.{w64}
 use borrow.Author.Needs.{needs}
 use borrow.Author.Tests.{lt-leb, le-leb, leb-true, eq-eqb, ne-eqb, lt-ltb, le-ltb, not-true, not-false}
 use Rattle.idmap.specs.declared.Line.{Line}
-use Rattle.idmap.specs.declared.text.Number.{Number}
-use Rattle.idmap.specs.declared.text.Number.the-variants.{Value, NoNumber}
+use Rattle.idmap.specs.declared.text.NumberRead.{NumberRead}
+use Rattle.idmap.specs.declared.text.NumberRead.the-variants.{Value, NoNumber}
 use Rattle.idmap.specs.declared.text.LineRead.{LineRead}
 use Rattle.idmap.specs.declared.text.LineRead.the-variants.{Read, NoLine}
 use Rattle.idmap.specs.Good.{noId}
 use Rattle.idmap.specs.Text.{isBlank, isDigit}
-use Rattle.idmap.specs.Scan.{run, value, skipped, ended, numberAt, fieldAt, lineEnd, scanLine}
+use Rattle.idmap.specs.Scan.{span, value, skipped, ended, numberAt, fieldAt, lineEnd, scanLine}
 use Rattle.prelude.proofs.Tests.{cond-elim, both}
 
 -- ---- is_blank, is_digit
@@ -36,33 +36,33 @@ module _ (c : ℕ) where
   pub digit-low : c < 48 → leb 48 c ≡ isDigit c
   digit-low h = simp (lt-leb 48 c h)
 
--- ---- a run of bytes
+-- ---- a span of bytes
 module _ (p : ℕ → Bool) (s : List ℕ) (i : ℕ) where
-  run-step : i < length s → p (getD s i 0) ≡ true → i + run p (drop i s) ≡ i + 1 + run p (drop (i + 1) s)
-  unfolding run
-  run-step h t = rw (drop-cons s i 0 h, t, add-one i) (omega arith)
+  span-step : i < length s → p (getD s i 0) ≡ true → i + span p (drop i s) ≡ i + 1 + span p (drop (i + 1) s)
+  unfolding span
+  span-step h t = rw (drop-cons s i 0 h, t, add-one i) (omega arith)
 
-  run-stop : i < length s → p (getD s i 0) ≡ false → i + run p (drop i s) ≡ i
-  unfolding run
-  run-stop h t = rw (drop-cons s i 0 h, t) (omega arith)
+  span-stop : i < length s → p (getD s i 0) ≡ false → i + span p (drop i s) ≡ i
+  unfolding span
+  span-stop h t = rw (drop-cons s i 0 h, t) (omega arith)
 
-  run-end : length s ≤ i → i + run p (drop i s) ≡ i
-  unfolding run
-  run-end h = rw (drop-of-length-le s {i = i} h) (omega arith)
+  span-end : length s ≤ i → i + span p (drop i s) ≡ i
+  unfolding span
+  span-end h = rw (drop-of-length-le s {i = i} h) (omega arith)
 
 -- ---- skip
 module _ (s : List ℕ) (at i : ℕ) (inv : skipped s at ≡ skipped s i) where
-  pub skip-step : (t : Bool) → i < length s → t ≡ isBlank (getD s i 0) → t ≡ true → skipped s at ≡ skipped s (i + 1)
+  pub skip-step : (t : Bool) → i < length s → t ≡ isBlank (getD s i 0) → not t ≡ false → skipped s at ≡ skipped s (i + 1)
   unfolding skipped
-  skip-step t h e y = inv ∙ run-step isBlank s i h (sym e ∙ y)
+  skip-step t h e y = inv ∙ span-step isBlank s i h (sym e ∙ not-false t y)
 
-  pub skip-stop : (t : Bool) → i < length s → t ≡ isBlank (getD s i 0) → t ≡ false → i ≡ skipped s at
+  pub skip-stop : (t : Bool) → i < length s → t ≡ isBlank (getD s i 0) → not t ≡ true → i ≡ skipped s at
   unfolding skipped
-  skip-stop t h e n = sym (inv ∙ run-stop isBlank s i h (sym e ∙ n))
+  skip-stop t h e n = sym (inv ∙ span-stop isBlank s i h (sym e ∙ not-true t n))
 
   pub skip-end : length s ≤ i → i ≡ skipped s at
   unfolding skipped
-  skip-end h = sym (inv ∙ run-end isBlank s i h)
+  skip-end h = sym (inv ∙ span-end isBlank s i h)
 
 -- ---- made
 module _ (at e v : ℕ) (small : v ≤ noId) where
@@ -96,8 +96,8 @@ value-le v (c ∷ s) =
     cond-elim (λ (n : ℕ). v ≤ n) (isDigit c) (let h = value-le (v * 10 + (c - 48)) s in omega arith) (omega arith)
 
 -- the number from `at`, of which v was read up to i
-pub numberFrom : List ℕ → ℕ → ℕ → ℕ → Number
-numberFrom s at v i = ended at (i + run isDigit (drop i s)) (value v (drop i s))
+pub numberFrom : List ℕ → ℕ → ℕ → ℕ → NumberRead
+numberFrom s at v i = ended at (i + span isDigit (drop i s)) (value v (drop i s))
 
 pub number-starts : (s : List ℕ) (at : ℕ) → numberAt s at ≡ numberFrom s at 0 at
 unfolding numberAt numberFrom
@@ -121,15 +121,15 @@ module _ (c : ℕ) (t : Bool) (e : t ≡ isDigit c) (y : not t ≡ false) where
 module _ (s : List ℕ) (at v i : ℕ) (inv : numberAt s at ≡ numberFrom s at v i) where
   pub number-step : (t : Bool) → i < length s → t ≡ isDigit (getD s i 0) → not t ≡ false → numberAt s at ≡ numberFrom s at (v * 10 + (getD s i 0 - 48)) (i + 1)
   unfolding numberFrom
-  number-step t h e y = inv ∙ rw (run-step isDigit s i h (sym e ∙ not-false t y), value-step s v i h (sym e ∙ not-false t y))
+  number-step t h e y = inv ∙ rw (span-step isDigit s i h (sym e ∙ not-false t y), value-step s v i h (sym e ∙ not-false t y))
 
-  pub number-stop : (t : Bool) (r : Number) → i < length s → t ≡ isDigit (getD s i 0) → not t ≡ true → r ≡ ended at i v → r ≡ numberAt s at
+  pub number-stop : (t : Bool) (r : NumberRead) → i < length s → t ≡ isDigit (getD s i 0) → not t ≡ true → r ≡ ended at i v → r ≡ numberAt s at
   unfolding numberFrom
-  number-stop t r h e n m = m ∙ sym (inv ∙ rw (run-stop isDigit s i h (sym e ∙ not-true t n), value-stop s v i h (sym e ∙ not-true t n)))
+  number-stop t r h e n m = m ∙ sym (inv ∙ rw (span-stop isDigit s i h (sym e ∙ not-true t n), value-stop s v i h (sym e ∙ not-true t n)))
 
-  pub number-end : (r : Number) → length s ≤ i → r ≡ ended at i v → r ≡ numberAt s at
+  pub number-end : (r : NumberRead) → length s ≤ i → r ≡ ended at i v → r ≡ numberAt s at
   unfolding numberFrom
-  number-end r h m = m ∙ sym (inv ∙ rw (run-end isDigit s i h, value-end s v i h))
+  number-end r h m = m ∙ sym (inv ∙ rw (span-end isDigit s i h, value-end s v i h))
 
   pub number-over : (t : Bool) → i < length s → t ≡ isDigit (getD s i 0) → not t ≡ false → noId < v * 10 + (getD s i 0 - 48) → NoNumber ≡ numberAt s at
   unfolding numberFrom ended
@@ -139,7 +139,7 @@ module _ (s : List ℕ) (at v i : ℕ) (inv : numberAt s at ≡ numberFrom s at 
       sym (number-step t h e y ∙ rw (lt-leb (value w (drop (i + 1) s)) noId (omega arith)))
 
 -- ---- field
-pub field-is : (s : List ℕ) (at p : ℕ) (r : Number) → p ≡ skipped s at → r ≡ numberAt s p → r ≡ fieldAt s at
+pub field-is : (s : List ℕ) (at p : ℕ) (r : NumberRead) → p ≡ skipped s at → r ≡ numberAt s p → r ≡ fieldAt s at
 unfolding fieldAt
 field-is s at p r e f = rw e at f
 
@@ -157,18 +157,18 @@ module _ (s : List ℕ) (e : ℕ) (l : Line) where
   unfolding lineEnd
   end-text h = simp (le-ltb e (length s) h)
 
--- ---- read_line
-module _ (s : List ℕ) (r₁ : Number) (f₁ : r₁ ≡ fieldAt s 0) where
+-- ---- parse_line
+module _ (s : List ℕ) (r₁ : NumberRead) (f₁ : r₁ ≡ fieldAt s 0) where
   pub line-no-first : r₁ ≡ NoNumber → NoLine ≡ scanLine s
   unfolding scanLine
   line-no-first n = rw (sym f₁ ∙ n)
 
-  module _ (a p : ℕ) (v₁ : r₁ ≡ Value a p) (r₂ : Number) (f₂ : r₂ ≡ fieldAt s p) where
+  module _ (a p : ℕ) (v₁ : r₁ ≡ Value a p) (r₂ : NumberRead) (f₂ : r₂ ≡ fieldAt s p) where
     pub line-no-second : r₂ ≡ NoNumber → NoLine ≡ scanLine s
     unfolding scanLine
     line-no-second n = rw (sym f₁ ∙ v₁, sym f₂ ∙ n)
 
-    module _ (b q : ℕ) (v₂ : r₂ ≡ Value b q) (r₃ : Number) (f₃ : r₃ ≡ fieldAt s q) where
+    module _ (b q : ℕ) (v₂ : r₂ ≡ Value b q) (r₃ : NumberRead) (f₃ : r₃ ≡ fieldAt s q) where
       pub line-no-third : r₃ ≡ NoNumber → NoLine ≡ scanLine s
       unfolding scanLine
       line-no-third n = rw (sym f₁ ∙ v₁, sym f₂ ∙ v₂, sym f₃ ∙ n)

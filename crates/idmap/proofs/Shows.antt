@@ -11,7 +11,7 @@ use borrow.Author.Needs.{needs}
 use borrow.Author.Tests.{eq-eqb, ne-eqb}
 use Rattle.prelude.specs.Parts.{fitsAt, putAt}
 use Rattle.idmap.specs.declared.Line.{Line}
-use Rattle.idmap.specs.Show.{columnOf, shown, numberText, lineColumns, lineText, linesText}
+use Rattle.idmap.specs.Show.{columnOf, shown, numberText, lineColumns, lineBytes, lineText, linesText}
 
 -- ---- how long the texts are
 length-shown : (k v : ℕ) → length (shown k v) ≡ k
@@ -27,11 +27,11 @@ pub length-line-columns : (l : Line) → length (lineColumns l) ≡ 32
 unfolding lineColumns
 length-line-columns l = simp (length-append, length-number-text)
 
-pub length-line-text : (l : Line) → length (lineText l) ≡ 33
+pub length-line-text : (l : Line) → length (lineText l) ≡ lineBytes
 unfolding lineText
 length-line-text l = simp (length-append, length-line-columns)
 
-pub length-lines-text : (ls : List Line) → length (linesText ls) ≡ 33 * length ls
+pub length-lines-text : (ls : List Line) → length (linesText ls) ≡ lineBytes * length ls
 unfolding linesText
 length-lines-text [] = refl
 length-lines-text (l ∷ ls) = rw (length-append, length-line-text, length-lines-text ls) (omega arith)

@@ -13,6 +13,7 @@ use mir.Val.{Fits}
 use mir.Syntax.{w64}
 use borrow.Author.Needs.{needs}
 use borrow.Author.Tests.{le-leb, lt-leb}
+use Rattle.prelude.specs.Lists.{consOf, allOf}
 use Rattle.idmap.specs.declared.Line.{Line}
 use Rattle.idmap.specs.declared.text.LineRead.{LineRead}
 use Rattle.idmap.specs.declared.text.LineRead.the-variants.{Read, NoLine}
@@ -20,7 +21,7 @@ use Rattle.idmap.specs.declared.text.MapText.{MapText}
 use Rattle.idmap.specs.declared.text.Parsed.the-variants.{Lines, Bad}
 use Rattle.idmap.specs.Line.{noLine}
 use Rattle.idmap.specs.Good.{maxLines, goodOf}
-use Rattle.idmap.specs.Text.{consOf, allOf, pieces, textLines, checked, mapLines, padded, mapText}
+use Rattle.idmap.specs.Text.{pieces, textLines, checked, mapLines, padded, mapText}
 use Rattle.idmap.specs.Scan.{scanLine}
 use Rattle.idmap.proofs.FirstLine.{afterLine, text-step, line-takes}
 

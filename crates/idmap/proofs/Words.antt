@@ -8,24 +8,24 @@ use native.Mathlib.Omega.{arith}
 use lib.ListN.{length, drop, length-drop}
 use lib.Seq.{drop-cons}
 use Rattle.idmap.specs.declared.Line.{Line}
-use Rattle.idmap.specs.Line.{lineAt, linesIn, wordsOf}
+use Rattle.idmap.specs.Line.{lineWords, lineAt, linesIn, wordsOf}
 
 module _ (ws : List ℕ) (i : ℕ) where
   -- the line at place i, and those after it
-  pub lines-step : 3 ≤ length ws - i → linesIn (drop i ws) ≡ lineAt ws i ∷ linesIn (drop (i + 3) ws)
+  pub lines-step : lineWords ≤ length ws - i → linesIn (drop i ws) ≡ lineAt ws i ∷ linesIn (drop (i + lineWords) ws)
   unfolding linesIn
   lines-step h =
       rw (drop-cons ws i 0 (omega arith), drop-cons ws (suc i) 0 (omega arith), drop-cons ws (suc (suc i)) 0 (omega arith), add-one i, add-two i, add-three i)
 
   -- too few words are left for a line
-  short : (l : List ℕ) → length l < 3 → linesIn l ≡ []
+  short : (l : List ℕ) → length l < lineWords → linesIn l ≡ []
   unfolding linesIn
   short [] h = refl
   short (a ∷ []) h = refl
   short (a ∷ b ∷ []) h = refl
   short (a ∷ b ∷ c ∷ l) h = absurd (omega arith)
 
-  pub lines-end : length ws - i < 3 → linesIn (drop i ws) ≡ []
+  pub lines-end : length ws - i < lineWords → linesIn (drop i ws) ≡ []
   lines-end h = short (drop i ws) (simp length-drop h)
 
 -- the numbers of a line have 32 bits

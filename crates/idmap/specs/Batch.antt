@@ -6,6 +6,10 @@ use Rattle.idmap.specs.declared.Line.{Line}
 use Rattle.idmap.specs.Line.{inRange}
 use Rattle.idmap.specs.Lookup.{movedBy, out, flip, idOr}
 
+-- how many IDs the code looks up at once
+abbrev pub batchSize : ℕ
+batchSize = 20
+
 -- what a line gives for an ID that it holds, and another value for one that it does not
 abbrev pub movedOr : Line → ℕ → ℕ → ℕ
 movedOr l id other = cond (inRange id (l .inside) (l .count)) (movedBy l id) other

@@ -21,6 +21,10 @@ inRange id start count = ltb (less id start) count
 abbrev pub noLine : Line
 noLine = record { inside = 0; parent = 0; count = 0 }
 
+-- the words that a line is kept in
+abbrev pub lineWords : ℕ
+lineWords = 3
+
 -- the line that three words hold, each in its low 32 bits
 abbrev pub lineOfWords : ℕ → ℕ → ℕ → Line
 lineOfWords a b c = record { inside = a % 2 ^ 32; parent = b % 2 ^ 32; count = c % 2 ^ 32 }

@@ -25,7 +25,11 @@ numberText n = shown 9 (n / 10) ++ (lastDigit n ∷ [])
 unfoldable pub lineColumns : Line → List ℕ
 lineColumns l = numberText (l .inside) ++ 32 ∷ (numberText (l .parent) ++ 32 ∷ numberText (l .count))
 
--- document 01: a newline after, 33 bytes a line
+-- document 01: 33 bytes a line
+abbrev pub lineBytes : ℕ
+lineBytes = 33
+
+-- document 01: a newline after
 unfoldable pub lineText : Line → List ℕ
 lineText l = lineColumns l ++ (10 ∷ [])
 

@@ -5,11 +5,16 @@ use mathlib.Core.List.{List, [], _∷_, _++_}
 use mathlib.Core.Option.{Option, none, some}
 use lib.Dec.{leb, eqb}
 use lib.ListN.{length, replicate}
+use Rattle.prelude.specs.Lists.{allOf}
 use Rattle.idmap.specs.declared.Line.{Line}
 use Rattle.idmap.specs.declared.text.Parsed.the-variants.{Lines, Bad}
 use Rattle.idmap.specs.declared.text.MapText.{MapText}
 use Rattle.idmap.specs.Line.{noLine}
 use Rattle.idmap.specs.Good.{maxLines, noId, goodOf}
+
+-- document 01: the most bytes that the text of a map has
+abbrev pub maxTextBytes : ℕ
+maxTextBytes = 4095
 
 -- bytes
 abbrev pub isNewline : ℕ → Bool
@@ -36,16 +41,6 @@ filled [] = []
 filled ([] ∷ ps) = filled ps
 filled ((c ∷ p) ∷ ps) = (c ∷ p) ∷ filled ps
 
--- what each gives, or nothing where one gives nothing
-unfoldable pub consOf : {A : Type 0} → Option A → Option (List A) → Option (List A)
-consOf none rest = none
-consOf (some a) none = none
-consOf (some a) (some as′) = some (a ∷ as′)
-
-unfoldable pub allOf : {A B : Type 0} → (A → Option B) → List A → Option (List B)
-allOf f [] = some []
-allOf f (a ∷ l) = consOf (f a) (allOf f l)
-
 -- a number: digits, of value at most 4,294,967,295
 unfoldable pub allDigits : List ℕ → Bool
 allDigits [] = true
@@ -55,12 +50,12 @@ unfoldable pub decimal : ℕ → List ℕ → ℕ
 decimal v [] = v
 decimal v (c ∷ s) = decimal (v * 10 + (c - 48)) s
 
-unfoldable pub numberOf : List ℕ → Option ℕ
-numberOf s = cond (allDigits s && leb (decimal 0 s) noId) (some (decimal 0 s)) none
+unfoldable pub decimalOf : List ℕ → Option ℕ
+decimalOf s = cond (allDigits s && leb (decimal 0 s) noId) (some (decimal 0 s)) none
 
 -- a line: three numbers with one or more spaces or tabs between, and any before or after
 unfoldable pub numbersOf : List ℕ → Option (List ℕ)
-numbersOf line = allOf numberOf (filled (pieces isBlank line))
+numbersOf line = allOf decimalOf (filled (pieces isBlank line))
 
 unfoldable pub threeOf : Option (List ℕ) → Option Line
 threeOf none = none

@@ -5,12 +5,15 @@ ghost use mathlib.Core.List.{map, zipWith};
 ghost use Rattle.idmap.specs.Line.{linesIn};
 ghost use Rattle.idmap.specs.Lookup.{facingOf};
 ghost use Rattle.idmap.specs.Batch.{movedOr, outEach, backEach};
+use crate::LINE_WORDS;
 use crate::Line;
 use crate::lookup::facing;
 use crate::lookup::line_at;
 
-// Twenty IDs, of which a processor takes four in a step.
-pub type Batch = [u32; 20];
+// A processor takes four of these IDs in a step.
+pub const BATCH_SIZE: usize = 20;
+
+pub type Batch = [u32; BATCH_SIZE];
 
 // What `l` gives for an `id` that it holds, else `other`.
 fn moved_or(l: Line, id: u32, other: u32) -> u32
@@ -30,7 +33,7 @@ fn through(l: Line, ids: Batch, found: Batch) -> Batch
 {
     let mut r = found;
     let mut i: usize = 0;
-    while i < 20 {
+    while i < BATCH_SIZE {
         r[i] = moved_or(l, ids[i], found[i]);
         i += 1;
     }
@@ -42,11 +45,11 @@ fn through(l: Line, ids: Batch, found: Batch) -> Batch
 fn first_each(words: &[u64], ids: Batch, backward: bool, other: u32) -> Batch
     ensures { λ r. ⌜ r ≡ outEach other (map (facingOf backward) (linesIn (now (words .entry)))) ids ⌝ }
 {
-    let mut found: Batch = [other; 20];
-    let mut i = words.len() / 3;
+    let mut found: Batch = [other; BATCH_SIZE];
+    let mut i = words.len() / LINE_WORDS;
     while 0 < i {
         i -= 1;
-        let l = facing(line_at(words, i * 3), backward);
+        let l = facing(line_at(words, i * LINE_WORDS), backward);
         let next = through(l, ids, found);
         found = next;
     }

@@ -10,6 +10,15 @@ pub mod text;
 // The most lines that a map has.
 pub const MAX_LINES: usize = 5;
 
+// The words that a line is kept in.
+pub const LINE_WORDS: usize = 3;
+
+// The most bytes that the text of a map has.
+pub const MAX_TEXT_BYTES: usize = 4095;
+
+// IDs are 32-bit: a word keeps one in its low 32 bits, which are the rest by this.
+pub const TWO_TO_32: u64 = 4294967296;
+
 // The value that means 'no ID' and is never mapped.
 pub const NO_ID: u32 = 4294967295;
 

@@ -5,7 +5,9 @@ ghost use Prim.Native.Nat.{_+_, _<_};
 ghost use lib.ListN.{length};
 ghost use Rattle.idmap.specs.Line.{inRange, lineAt, linesIn};
 ghost use Rattle.idmap.specs.Lookup.{facingOf, movedBy, out, back, idOr, reachOf};
+use crate::LINE_WORDS;
 use crate::Line;
+use crate::TWO_TO_32;
 use crate::Translated;
 
 // Whether `id` is one of the `count` IDs from `start` on.
@@ -21,9 +23,9 @@ pub(crate) fn line_at(words: &[u64], at: usize) -> Line
     ensures { λ r. ⌜ r ≡ lineAt (now (words .entry)) at ⌝ }
 {
     Line {
-        inside: (words[at] % 4294967296) as u32,
-        parent: (words[at + 1] % 4294967296) as u32,
-        count: (words[at + 2] % 4294967296) as u32,
+        inside: (words[at] % TWO_TO_32) as u32,
+        parent: (words[at + 1] % TWO_TO_32) as u32,
+        count: (words[at + 2] % TWO_TO_32) as u32,
     }
 }
 
@@ -54,12 +56,12 @@ fn first(words: &[u64], id: u32, backward: bool) -> Translated
     ensures { λ r. ⌜ r ≡ out (map (facingOf backward) (linesIn (now (words .entry)))) id ⌝ }
 {
     let mut i: usize = 0;
-    while 3 <= words.len() - i {
+    while LINE_WORDS <= words.len() - i {
         let l = facing(line_at(words, i), backward);
         if in_range(id, l.inside, l.count) {
             return Translated::Id(moved(l, id));
         }
-        i += 3;
+        i += LINE_WORDS;
     }
     Translated::Unmapped
 }
@@ -93,13 +95,13 @@ pub fn reach(words: &[u64], id: u32) -> u32
     ensures { λ r. ⌜ r ≡ reachOf (linesIn (now (words .entry))) id ⌝ }
 {
     let mut i: usize = 0;
-    while 3 <= words.len() - i {
+    while LINE_WORDS <= words.len() - i {
         let l = line_at(words, i);
         let offset = std::num::wrapping_sub_u32(id, l.inside);
         if offset < l.count {
             return l.count - offset;
         }
-        i += 3;
+        i += LINE_WORDS;
     }
     0
 }

@@ -5,6 +5,7 @@ ghost use lib.ListN.{take, drop};
 ghost use Rattle.idmap.specs.Good.{fitsOf, boundedOf, apartSide, apartOf, allApart, goodOf};
 use crate::Line;
 use crate::MAX_LINES;
+use crate::NO_ID;
 
 pub fn least(a: u64, b: u64) -> u64
     ensures { λ r. ⌜ r ≡ min a b ⌝ }
@@ -22,8 +23,8 @@ pub fn most(a: u64, b: u64) -> u64
 fn fits(l: Line) -> bool
     ensures { λ r. ⌜ r ≡ fitsOf l ⌝ }
 {
-    (l.inside as u64) + (l.count as u64) <= 4294967295
-        && (l.parent as u64) + (l.count as u64) <= 4294967295
+    (l.inside as u64) + (l.count as u64) <= NO_ID as u64
+        && (l.parent as u64) + (l.count as u64) <= NO_ID as u64
 }
 
 // The count is over 0, and both sides fit.
@@ -59,11 +60,10 @@ fn clear(l: Line, lines: [Line; MAX_LINES], n: usize, from: usize) -> bool
         if n <= j {
             return true;
         }
-        if apart(l, lines[j]) {
-            j += 1;
-        } else {
+        if !apart(l, lines[j]) {
             return false;
         }
+        j += 1;
     }
     true
 }
@@ -78,15 +78,13 @@ pub fn good(lines: [Line; MAX_LINES], n: usize) -> bool
             return true;
         }
         let l = lines[i];
-        if bounded(l) {
-            if clear(l, lines, n, i + 1) {
-                i += 1;
-            } else {
-                return false;
-            }
-        } else {
+        if !bounded(l) {
             return false;
         }
+        if !clear(l, lines, n, i + 1) {
+            return false;
+        }
+        i += 1;
     }
     true
 }

@@ -6,6 +6,9 @@ ghost use Rattle.prelude.specs.Parts.{fitsAt, putAt};
 ghost use Rattle.idmap.specs.Show.{columnOf, numberText, lineText};
 use crate::Line;
 
+// The bytes of the text of a line.
+pub const LINE_BYTES: usize = 33;
+
 // The last column of `v`, blank where nothing of the number is left.
 fn column(v: u32) -> u8
     ensures { λ r. ⌜ r ≡ columnOf v ⌝ }
@@ -30,7 +33,7 @@ fn number_text(n: u32) -> [u8; 10]
 }
 
 // The text of a line: each number right-aligned in 10 columns, one space between, a newline after.
-pub fn line_text(l: Line) -> [u8; 33]
+pub fn line_text(l: Line) -> [u8; LINE_BYTES]
     ensures { λ r. ⌜ r ≡ lineText l ⌝ }
 {
     let a = number_text(l.inside);

@@ -8,6 +8,7 @@ ghost use Rattle.idmap.specs.Scan.{skipped, ended, numberAt, fieldAt, li
 use super::overlap::good;
 use crate::Line;
 use crate::MAX_LINES;
+use crate::NO_ID;
 
 // How many lines a map's text has, or that it is no map's text.
 pub enum Parsed {
@@ -22,7 +23,7 @@ pub struct MapText {
 }
 
 // A number, and where it ends.
-enum Number {
+enum NumberRead {
     Value(u32, usize),
     NoNumber,
 }
@@ -51,29 +52,28 @@ fn skip(s: &[u8], at: usize) -> usize
 {
     let mut i = at;
     while i < s.len() {
-        if is_blank(s[i]) {
-            i += 1;
-        } else {
+        if !is_blank(s[i]) {
             return i;
         }
+        i += 1;
     }
     i
 }
 
 // The number `v`, read from `at` to `end`.
-fn made(at: usize, end: usize, v: u64) -> Number
+fn made(at: usize, end: usize, v: u64) -> NumberRead
     requires { ⌜ v ≤ noId ⌝ }
     ensures { λ r. ⌜ r ≡ ended at end v ⌝ }
 {
     if end == at {
-        Number::NoNumber
+        NumberRead::NoNumber
     } else {
-        Number::Value(v as u32, end)
+        NumberRead::Value(v as u32, end)
     }
 }
 
 // The number that starts at `at`.
-fn digits(s: &[u8], at: usize) -> Number
+fn digits(s: &[u8], at: usize) -> NumberRead
     ensures { λ r. ⌜ r ≡ numberAt (now (s .entry)) at ⌝ }
 {
     let mut v: u64 = 0;
@@ -84,8 +84,8 @@ fn digits(s: &[u8], at: usize) -> Number
             return made(at, i, v);
         }
         v = v * 10 + (c - 48) as u64;
-        if 4294967295 < v {
-            return Number::NoNumber;
+        if (NO_ID as u64) < v {
+            return NumberRead::NoNumber;
         }
         i += 1;
     }
@@ -93,7 +93,7 @@ fn digits(s: &[u8], at: usize) -> Number
 }
 
 // The number after any blanks.
-fn field(s: &[u8], at: usize) -> Number
+fn field(s: &[u8], at: usize) -> NumberRead
     ensures { λ r. ⌜ r ≡ fieldAt (now (s .entry)) at ⌝ }
 {
     let p = skip(s, at);
@@ -116,16 +116,16 @@ fn line_end(s: &[u8], e: usize, l: Line) -> LineRead
 }
 
 // The line at the front of `s`, which is the part of a text that starts after the last newline read.
-fn read_line(s: &[u8]) -> LineRead
+fn parse_line(s: &[u8]) -> LineRead
     ensures { λ r. ⌜ r ≡ scanLine (now (s .entry)) ⌝ }
 {
-    let Number::Value(a, p) = field(s, 0) else {
+    let NumberRead::Value(a, p) = field(s, 0) else {
         return LineRead::NoLine;
     };
-    let Number::Value(b, q) = field(s, p) else {
+    let NumberRead::Value(b, q) = field(s, p) else {
         return LineRead::NoLine;
     };
-    let Number::Value(c, e) = field(s, q) else {
+    let NumberRead::Value(c, e) = field(s, q) else {
         return LineRead::NoLine;
     };
     line_end(
@@ -155,7 +155,7 @@ fn bad() -> MapText
 }
 
 // The lines that a text says, if it is the text of a good map.
-pub fn read_map(text: &[u8]) -> MapText
+pub fn parse_map(text: &[u8]) -> MapText
     ensures { λ r. ⌜ r ≡ mapText (mapLines (now (text .entry))) ⌝ }
 {
     let mut lines = [Line {
@@ -169,7 +169,7 @@ pub fn read_map(text: &[u8]) -> MapText
         if n == MAX_LINES {
             return bad();
         }
-        let LineRead::Read(l, used) = read_line(&text[at..]) else {
+        let LineRead::Read(l, used) = parse_line(&text[at..]) else {
             return bad();
         };
         lines[n] = l;

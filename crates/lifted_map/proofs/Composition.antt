@@ -12,7 +12,7 @@ use Rattle.idmap.specs.declared.Translated.the-variants.{Id, Unmapped}
 use Rattle.idmap.specs.Line.{less, inRange}
 use Rattle.idmap.specs.Lookup.{movedBy, out, thenId}
 use Rattle.idmap.specs.Good.{allApart, goodOf, Within, Bounded, Apart}
-use Rattle.lifted_map.specs.Lift.{commonOf, piecesOf, withIds, composedOf}
+use Rattle.lifted_map.specs.Lift.{commonOf, piecesOf, nonEmpty, composedOf}
 use Rattle.prelude.proofs.Tests.{by-test, and-i}
 use Rattle.idmap.proofs.Interval.{in-interval, interval-in}
 use Rattle.idmap.proofs.Goodness.{bounded-test, apart-test, good-first, good-others, good-apart, apart-first-of}
@@ -29,13 +29,13 @@ out-low [] x = refl
 out-low (l ∷ ls) x = rw (less-low x (l .inside), out-low ls x)
 
 -- a line without IDs gives no answer
-out-with-ids : (ks : List Line) (x : ℕ) → out (withIds ks) x ≡ out ks x
-unfolding out withIds
-out-with-ids [] x = refl
-out-with-ids (k ∷ ks) x =
+out-non-empty : (ks : List Line) (x : ℕ) → out (nonEmpty ks) x ≡ out ks x
+unfolding out nonEmpty
+out-non-empty [] x = refl
+out-non-empty (k ∷ ks) x =
     by-test (eqb (k .count) 0)
-    (λ t. rw (t, eqb-true (k .count) 0 t, le-ltb (less x (k .inside)) 0 (omega arith)) (out-with-ids ks x))
-    (λ t. rw (t, out-with-ids ks x))
+    (λ t. rw (t, eqb-true (k .count) 0 t, le-ltb (less x (k .inside)) 0 (omega arith)) (out-non-empty ks x))
+    (λ t. rw (t, out-non-empty ks x))
 
 -- the first of two lists that has an answer gives it
 orElse : Translated → Translated → Translated
@@ -130,13 +130,13 @@ every-append : {P : Line → Type 0} {ks ns : List Line} → Every P ks → Ever
 every-append none d = d
 every-append (then p e) d = then p (every-append e d)
 
-every-with-ids : {P : Line → Type 0} {ks : List Line} → Every P ks → Every P (withIds ks)
-unfolding withIds
-every-with-ids none = none
-every-with-ids (then {k} p e) =
+every-non-empty : {P : Line → Type 0} {ks : List Line} → Every P ks → Every P (nonEmpty ks)
+unfolding nonEmpty
+every-non-empty none = none
+every-non-empty (then {k} p e) =
     by-test (eqb (k .count) 0)
-    (λ t. rw t (every-with-ids e))
-    (λ t. rw t (then p (every-with-ids e)))
+    (λ t. rw t (every-non-empty e))
+    (λ t. rw t (then p (every-non-empty e)))
 
 spread-append : {ks ns : List Line} → Spread ks → Spread ns → Every (λ k. Every (Apart k) ns) ks → Spread (ks ++ ns)
 spread-append none d none = d
@@ -148,8 +148,8 @@ unfolding allApart
 apart-all k [] b s none = refl
 apart-all k (n ∷ ks) b s (then a e) = and-i _ _ (apart-test k n b (good-first n ks s) a) (apart-all k ks b (good-others n ks s) e)
 
-spread-good : (ks : List Line) → Spread ks → goodOf (withIds ks) ≡ true
-unfolding withIds goodOf
+spread-good : (ks : List Line) → Spread ks → goodOf (nonEmpty ks) ≡ true
+unfolding nonEmpty goodOf
 spread-good [] none = refl
 spread-good (k ∷ ks) (then f a e) =
     let rest = spread-good ks e in
@@ -158,7 +158,7 @@ spread-good (k ∷ ks) (then f a e) =
     (λ t.
     let some = eqb-false (k .count) 0 t in
     let b = f (omega arith) in
-    rw t (and-i _ _ (bounded-test k b) (and-i _ _ (apart-all k (withIds ks) b rest (every-with-ids a)) rest)))
+    rw t (and-i _ _ (bounded-test k b) (and-i _ _ (apart-all k (nonEmpty ks) b rest (every-non-empty a)) rest)))
 
 -- ---- what a line p of a good map holds on its parent side comes from p
 record Answers (above : List Line) (p : Line) : Type 0 where
@@ -258,14 +258,14 @@ module _ (above : List Line) (g : goodOf above ≡ true) where
 
 -- ---- the laws
 pub composed-over-none : (ls : List Line) → composedOf [] ls ≡ []
-unfolding composedOf piecesOf withIds
+unfolding composedOf piecesOf nonEmpty
 composed-over-none [] = refl
 composed-over-none (l ∷ ls) = composed-over-none ls
 
 pub composed-out : (above ls : List Line) → goodOf above ≡ true → goodOf ls ≡ true → (x : ℕ) → out (composedOf above ls) x ≡ thenId (out ls x) (out above)
 unfolding composedOf
 composed-out above ls g s x =
-    out-with-ids (piecesOf above ls) x ∙ sym (out-low (piecesOf above ls) x) ∙ pieces-all above g ls s (x % 2 ^ 32) (omega arith) ∙ rw (out-low ls x)
+    out-non-empty (piecesOf above ls) x ∙ sym (out-low (piecesOf above ls) x) ∙ pieces-all above g ls s (x % 2 ^ 32) (omega arith) ∙ rw (out-low ls x)
 
 pub composed-good : (above ls : List Line) → goodOf above ≡ true → goodOf ls ≡ true → goodOf (composedOf above ls) ≡ true
 unfolding composedOf

@@ -7,7 +7,7 @@ use lib.Dec.{leb, eqb}
 use lib.ListN.{length, getD, take}
 use Rattle.prelude.specs.Parts.{part}
 use Rattle.idmap.specs.declared.Line.{Line}
-use Rattle.idmap.specs.Line.{more, linesIn}
+use Rattle.idmap.specs.Line.{more, lineWords, linesIn}
 
 -- where the parent side of line l and the inside of line p above start and end together
 abbrev pub startOf : Line → Line → ℕ
@@ -30,12 +30,12 @@ piecesOf above [] = []
 piecesOf above (l ∷ ls) = map (commonOf l) above ++ piecesOf above ls
 
 -- those that hold an ID
-unfoldable pub withIds : List Line → List Line
-withIds [] = []
-withIds (k ∷ ks) = cond (eqb (k .count) 0) (withIds ks) (k ∷ withIds ks)
+unfoldable pub nonEmpty : List Line → List Line
+nonEmpty [] = []
+nonEmpty (k ∷ ks) = cond (eqb (k .count) 0) (nonEmpty ks) (k ∷ nonEmpty ks)
 
 unfoldable pub composedOf : List Line → List Line → List Line
-composedOf above ls = withIds (piecesOf above ls)
+composedOf above ls = nonEmpty (piecesOf above ls)
 
 -- the most lines that a lifted map has. Five lines through eight levels make no more
 abbrev pub maxPieces : ℕ
@@ -54,12 +54,18 @@ liftedOf above parent ls =
     (record { base = above .base; lines = composedOf (above .lines) ls })
     (record { base = parent; lines = ls })
 
--- a lifted map as a row of words: how many lines there are, the base, and three words for each of as many lines as there may be
+-- a lifted map as a row of words: how many lines there are and the base, and the words of as many lines as there may be
+abbrev pub headWords : ℕ
+headWords = 2
+
+abbrev pub pieceWords : ℕ
+pieceWords = lineWords * maxPieces
+
 abbrev pub liftedWidth : ℕ
-liftedWidth = 2 + 3 * maxPieces
+liftedWidth = headWords + pieceWords
 
 abbrev pub placesIn : List ℕ → List Line
-placesIn ws = linesIn (part (3 * maxPieces) 2 ws)
+placesIn ws = linesIn (part pieceWords headWords ws)
 
 unfoldable pub countedLines : List ℕ → List Line
 countedLines ws = take (getD ws 0 0) (placesIn ws)

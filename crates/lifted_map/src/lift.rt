@@ -8,10 +8,13 @@ ghost use Rattle.idmap.specs.Good.{maxLines};
 ghost use Rattle.idmap.specs.Line.{linesIn};
 ghost use Rattle.lifted_map.specs.Lift.{commonOf, piecesOf, maxPieces, placesIn, liftedIn, liftedOf};
 ghost use Rattle.lifted_map.specs.Adding.{piecesIn, added, addedAll};
+use crate::HEAD_WORDS;
 use crate::LiftedMap;
 use crate::MAX_PIECES;
+use idmap::LINE_WORDS;
 use idmap::Line;
 use idmap::MAX_LINES;
+use idmap::TWO_TO_32;
 use idmap::overlap::least;
 use idmap::overlap::most;
 
@@ -38,13 +41,13 @@ fn common(l: Line, p: Line) -> Line
 }
 
 // Stores a line at place `n` of a row. A place past the last takes nothing.
-fn put(row: &mut LiftedMap, n: usize, l: Line)
+fn put_place(row: &mut LiftedMap, n: usize, l: Line)
     requires { ⌜ n ≤ maxPieces ⌝ }
     ensures stored { λ r. ⌜ placesIn (now (row .exit)) ≡ set (placesIn (now (row .entry))) n l ⌝ }
     ensures room { λ r. ⌜ length (placesIn (now (row .entry))) ≡ maxPieces ⌝ }
 {
     let words = [l.inside as u64, l.parent as u64, l.count as u64];
-    rows::put(row, 2 + n * 3, &words);
+    rows::put(row, HEAD_WORDS + n * LINE_WORDS, &words);
 }
 
 // Stores how many lines a row has, and its base.
@@ -66,7 +69,7 @@ fn add(row: &mut LiftedMap, n: usize, piece: Line) -> usize
     if MAX_PIECES < n {
         return n;
     }
-    put(row, n, piece);
+    put_place(row, n, piece);
     n + 1
 }
 
@@ -76,14 +79,14 @@ fn add_pieces(row: &mut LiftedMap, n: usize, above: &[u64], l: Line) -> usize
 {
     let mut k = n;
     let mut i: usize = 0;
-    while 3 <= above.len() - i {
+    while LINE_WORDS <= above.len() - i {
         let p = Line {
-            inside: (above[i] % 4294967296) as u32,
-            parent: (above[i + 1] % 4294967296) as u32,
-            count: (above[i + 2] % 4294967296) as u32,
+            inside: (above[i] % TWO_TO_32) as u32,
+            parent: (above[i + 1] % TWO_TO_32) as u32,
+            count: (above[i + 2] % TWO_TO_32) as u32,
         };
         k = add(row, k, common(l, p));
-        i += 3;
+        i += LINE_WORDS;
     }
     k
 }
@@ -111,14 +114,14 @@ fn put_pieces(row: &mut LiftedMap, above: &[u64], lines: [Line; MAX_LINES], coun
 }
 
 // Makes a row the first `count` lines as they are, with their parent as the base.
-fn put_lines(row: &mut LiftedMap, lines: [Line; MAX_LINES], count: usize, parent: u64)
+fn put_unlifted(row: &mut LiftedMap, lines: [Line; MAX_LINES], count: usize, parent: u64)
     ensures { λ r. ⌜ liftedIn (now (row .exit)) ≡ record { base = parent; lines = take count lines } ⌝ }
 {
     let end = given(count);
     let mut i: usize = 0;
     while i < end {
         let l = lines[i];
-        put(row, i, l);
+        put_place(row, i, l);
         i += 1;
     }
     put_head(row, end, parent);
@@ -138,7 +141,7 @@ pub fn lift(
 {
     let n = put_pieces(row, above, lines, count);
     if MAX_PIECES < n {
-        put_lines(row, lines, count, parent);
+        put_unlifted(row, lines, count, parent);
     } else {
         put_head(row, n, base);
     }

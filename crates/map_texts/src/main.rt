@@ -5,59 +5,59 @@ use idmap::MAX_LINES;
 use idmap::text::Parsed;
 use libc::STDOUT_FILENO;
 
-fn write(text: &[u8]) {
+fn print(text: &[u8]) {
     io::write_all(STDOUT_FILENO, text);
 }
 
 // Writes a byte of a text: a newline, a tab and what is not printable as an escape.
-fn write_byte(c: u8) {
+fn print_byte(c: u8) {
     if c == 10 {
-        write(b"\\n");
+        print(b"\\n");
         return;
     }
     if c == 9 {
-        write(b"\\t");
+        print(b"\\t");
         return;
     }
     if 32 <= c && c <= 126 {
         let one = [c];
-        write(&one);
+        print(&one);
         return;
     }
-    write(b"\\x");
+    print(b"\\x");
     io::print_hex(STDOUT_FILENO, c as u64, 2);
 }
 
-fn write_quoted(text: &[u8]) {
-    write(b"\"");
+fn print_quoted(text: &[u8]) {
+    print(b"\"");
     let mut i: usize = 0;
     while i < text.len() {
-        write_byte(text[i]);
+        print_byte(text[i]);
         i += 1;
     }
-    write(b"\"\n");
+    print(b"\"\n");
 }
 
-fn write_lines(lines: [Line; MAX_LINES], n: usize) {
+fn print_lines(lines: [Line; MAX_LINES], n: usize) {
     let mut i: usize = 0;
     while i < MAX_LINES {
         if n <= i {
             return;
         }
         let text = idmap::show::line_text(lines[i]);
-        write(&text);
+        print(&text);
         i += 1;
     }
 }
 
 fn show(text: &[u8]) {
-    write_quoted(text);
-    let read = idmap::text::read_map(text);
+    print_quoted(text);
+    let read = idmap::text::parse_map(text);
     let parsed = read.parsed;
     let lines = read.lines;
     match parsed {
-        Parsed::Lines(n) => write_lines(lines, n),
-        Parsed::Bad => write(b"bad\n"),
+        Parsed::Lines(n) => print_lines(lines, n),
+        Parsed::Bad => print(b"bad\n"),
     }
 }
 

@@ -13,7 +13,7 @@ use idmap::MAX_LINES;
 use idmap::Translated;
 use idmap::cover::covered;
 use idmap::text::Parsed;
-use idmap::text::read_map;
+use idmap::text::parse_map;
 use lifted_map::LiftedMap;
 use lifted_map::lift::lift;
 use records::IdMap;
@@ -169,7 +169,7 @@ fn with_map(kind: Kind, n: Namespace, map: IdMap) -> Namespace
 fn write_lines(t: &mut Tables, kind: Kind, w: Process, n: u64, text: &[u8]) -> Answer
     ensures { λ r. ⌜ Promise r (now (t .entry)) (now (t .exit)) (quick writeLinesTo (tablesOf (now (t .entry))) kind w n (now (text .entry))) ⌝ }
 {
-    let read = read_map(text);
+    let read = parse_map(text);
     let parsed = read.parsed;
     let lines = read.lines;
     let Parsed::Lines(count) = parsed else {

@@ -10,33 +10,14 @@ use lib.Seq.{drop-cons}
 use borrow.Author.Needs.{needs}
 use borrow.Author.Tests.{eq-eqb, ne-eqb}
 use Rattle.prelude.specs.Parts.{part}
+use Rattle.prelude.specs.Lists.{tab}
+use Rattle.prelude.proofs.Made.{tab-same, tab-next, tab-front, tab-whole}
 use Rattle.idmap.specs.declared.Line.{Line}
-use Rattle.idmap.specs.Line.{lineOfWords, lineAt, linesIn}
+use Rattle.idmap.specs.Line.{lineWords, lineOfWords, lineAt, linesIn}
 use Rattle.idmap.specs.Good.{maxLines}
-use Rattle.rows.specs.Rows.{tab}
 use Rattle.records.specs.Records.{mapWidth, mapOf, mapFrom, linesOf}
 use Rattle.records.specs.declared.IdMap.{IdMap}
 use Rattle.records.proofs.Records.{map-whole, map-other}
-
--- ---- lists made element by element
-tab-same : {A : Type 0} (f g : ℕ → A) (n k : ℕ) → ((j : ℕ) → f j ≡ g j) → tab f n k ≡ tab g n k
-tab-same f g zero k e = refl
-tab-same {A} f g (suc n) k e = ap₂ (λ (x : A) (xs : List A). x ∷ xs) (e k) (tab-same f g n (suc k) e)
-
-tab-next : {A : Type 0} (f : ℕ → A) (n k : ℕ) → tab (λ (j : ℕ). f (suc j)) n k ≡ tab f n (suc k)
-tab-next f zero k = refl
-tab-next {A} f (suc n) k = ap (λ (xs : List A). f (suc k) ∷ xs) (tab-next f n (suc k))
-
-tab-front : {A : Type 0} (f : ℕ → A) (n m k : ℕ) → n ≤ m → take n (tab f m k) ≡ tab f n k
-tab-front f zero m k h = refl
-tab-front f (suc n) zero k h = absurd (omega arith)
-tab-front {A} f (suc n) (suc m) k h = ap (λ (xs : List A). f k ∷ xs) (tab-front f n m (suc k) (omega arith))
-
-tab-whole : {A : Type 0} (f : ℕ → A) (n m k : ℕ) → m ≤ n → take n (tab f m k) ≡ tab f m k
-tab-whole f zero zero k h = refl
-tab-whole f zero (suc m) k h = absurd (omega arith)
-tab-whole f (suc n) zero k h = refl
-tab-whole {A} f (suc n) (suc m) k h = ap (λ (xs : List A). f k ∷ xs) (tab-whole f n m (suc k) (omega arith))
 
 -- ---- the lines that words hold, one by one
 line-front : (ws : List ℕ) (n : ℕ) → linesIn (take (suc n * 3) ws) ≡ linesIn (take (suc (suc (suc (n * 3)))) ws)
@@ -67,7 +48,7 @@ module _ (ws r : List ℕ) (long : length ws ≡ mapWidth) where
       q′ : linesIn r ≡ tab (λ (j : ℕ). lineAt ws (2 + 3 * j)) n 0
       q′ = ap linesIn q ∙ lines-words ws n 2 (omega arith)
 
-  pub written-all : (n : ℕ) → n ≡ getD ws 1 0 → getD ws 0 0 ≡ 1 → maxLines ≤ n → r ≡ part (3 * maxLines) 2 ws → linesIn r ≡ linesOf (mapOf ws)
+  pub written-all : (n : ℕ) → n ≡ getD ws 1 0 → getD ws 0 0 ≡ 1 → maxLines ≤ n → r ≡ part (lineWords * maxLines) 2 ws → linesIn r ≡ linesOf (mapOf ws)
   unfolding part
   written-all n e t h q =
       ap linesIn q ∙ lines-words ws maxLines 2 (omega arith) ∙ rw (eq-eqb (getD ws 0 0) 1 t, ← e) (sym (tab-whole (λ (j : ℕ). lineAt ws (2 + 3 * j)) n maxLines 0 h))

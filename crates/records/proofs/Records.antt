@@ -11,8 +11,8 @@ use mir.Syntax.{w32}
 use borrow.Author.Needs.{needs}
 use borrow.Author.Tests.{eq-eqb, ne-eqb}
 use Rattle.prelude.proofs.Lists.{copy-step, copy-all}
-use Rattle.rows.specs.Rows.{tab}
-use Rattle.rows.proofs.Lists.{tab-all}
+use Rattle.prelude.specs.Lists.{tab}
+use Rattle.prelude.proofs.Made.{tab-all}
 use Rattle.idmap.specs.declared.Line.{Line}
 use Rattle.idmap.specs.Line.{noLine, lineOfWords, lineAt}
 use Rattle.idmap.specs.Good.{maxLines}

@@ -5,11 +5,11 @@ use mathlib.Core.List.{List, [], _∷_}
 use mathlib.Core.Bool.{Bool, true, false, cond}
 use lib.ListN.{length, getD, take, drop, replicate}
 use lib.Dec.{eqb}
+use Rattle.prelude.specs.Lists.{tab}
 use Rattle.capability.specs.Sets.{capSetgid, capSetuid, emptySet}
 use Rattle.idmap.specs.declared.Line.{Line}
-use Rattle.idmap.specs.Line.{noLine, lineAt}
+use Rattle.idmap.specs.Line.{noLine, lineWords, lineAt}
 use Rattle.idmap.specs.Good.{maxLines}
-use Rattle.rows.specs.Rows.{tab}
 use Rattle.records.specs.declared.Kind.{Kind}
 use Rattle.records.specs.declared.Kind.the-variants.{User, Group}
 use Rattle.records.specs.declared.Ids.{Ids}
@@ -76,10 +76,10 @@ stateOf tag n = cond (eqb tag 1) (Written n) Unwritten
 
 -- a map's words: whether it is written, with how many lines, and three words for each of as many lines as there may be
 abbrev pub mapWidth : ℕ
-mapWidth = 2 + 3 * maxLines
+mapWidth = 2 + lineWords * maxLines
 
 abbrev pub mapOf : List ℕ → IdMap
-mapOf ws = record { state = stateOf (getD ws 0 0) (getD ws 1 0); lines = tab (λ (j : ℕ). lineAt ws (2 + 3 * j)) maxLines 0 }
+mapOf ws = record { state = stateOf (getD ws 0 0) (getD ws 1 0); lines = tab (λ (j : ℕ). lineAt ws (2 + lineWords * j)) maxLines 0 }
 
 abbrev pub freeMap : IdMap
 freeMap = record { state = Unwritten; lines = replicate maxLines noLine }

@@ -12,9 +12,6 @@ use idmap::MAX_LINES;
 // The most supplementary groups that a process has.
 pub const MAX_GROUPS: usize = 16;
 
-// IDs are kept in the low 32 bits of their words.
-const TWO_TO_32: u64 = 4294967296;
-
 // Which IDs a map or a call is about.
 pub enum Kind {
     User,

@@ -8,10 +8,11 @@ use crate::IdMap;
 use crate::Kind;
 use crate::MapState;
 use crate::Namespace;
-use crate::TWO_TO_32;
 use crate::words::flag_word;
+use idmap::LINE_WORDS;
 use idmap::Line;
 use idmap::MAX_LINES;
+use idmap::TWO_TO_32;
 
 // Where the parts of a map stand among its words.
 const STATE: usize = 0;
@@ -24,7 +25,7 @@ const LINES: usize = COUNT + 1;
 const WRITTEN: u64 = 1;
 
 // The words of as many lines as there may be.
-const LINES_WIDTH: usize = 3 * MAX_LINES;
+const LINES_WIDTH: usize = LINE_WORDS * MAX_LINES;
 
 // The words of a map.
 pub const MAP_WIDTH: usize = LINES + LINES_WIDTH;
@@ -103,10 +104,10 @@ fn map_of(words: &[u64]) -> IdMap
     ensures { λ r. ⌜ r ≡ mapOf (now (words .entry)) ⌝ }
 {
     let a = line_of(words, LINES);
-    let b = line_of(words, LINES + 3);
-    let c = line_of(words, LINES + 6);
-    let d = line_of(words, LINES + 9);
-    let e = line_of(words, LINES + 12);
+    let b = line_of(words, LINES + LINE_WORDS);
+    let c = line_of(words, LINES + 2 * LINE_WORDS);
+    let d = line_of(words, LINES + 3 * LINE_WORDS);
+    let e = line_of(words, LINES + 4 * LINE_WORDS);
     IdMap {
         state: state_of(words[STATE], words[COUNT]),
         lines: [a, b, c, d, e],
@@ -114,7 +115,7 @@ fn map_of(words: &[u64]) -> IdMap
 }
 
 // The words that are read as a line.
-fn line_words(l: Line) -> [u64; 3]
+fn line_words(l: Line) -> [u64; LINE_WORDS]
     ensures { λ r. ⌜ lineAt r 0 ≡ l ⌝ }
 {
     [l.inside as u64, l.parent as u64, l.count as u64]
@@ -271,7 +272,7 @@ fn written_lines(words: &[u64]) -> &[u64]
     if words[STATE] == WRITTEN {
         let n = words[COUNT];
         if n < MAX_LINES as u64 {
-            rows::get(words, LINES, (n as usize) * 3)
+            rows::get(words, LINES, (n as usize) * LINE_WORDS)
         } else {
             rows::get(words, LINES, LINES_WIDTH)
         }

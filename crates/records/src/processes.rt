@@ -6,9 +6,9 @@ use crate::GroupList;
 use crate::Ids;
 use crate::MAX_GROUPS;
 use crate::Process;
-use crate::TWO_TO_32;
 use crate::words::flag_word;
 use capability::CapabilitySet;
+use idmap::TWO_TO_32;
 
 // Where the parts of a process stand in its row.
 const LIVE: usize = 0;

@@ -7,8 +7,3 @@ use Rattle.prelude.specs.Parts.{part}
 unfoldable pub rows : {A : Type 0} → (List ℕ → A) → ℕ → ℕ → ℕ → List ℕ → List A
 rows dec w zero at l = []
 rows dec w (suc n) at l = dec (part w at l) ∷ rows dec w n (at + w) l
-
--- The list of f k, f (k + 1) and so on, n of them.
-abbrev pub tab : {A : Type 0} → (ℕ → A) → ℕ → ℕ → List A
-tab f zero k = []
-tab f (suc n) k = f k ∷ tab f n (suc k)

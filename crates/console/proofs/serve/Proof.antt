@@ -15,7 +15,7 @@ pub serve-spec : {M : Type 1} → statement M
 serve-spec =
     tie.close (tie.spec Inv-loop μ-loop
     (λ c. search needs)  -- loop-holds
-    (λ c κs. search needs)  -- turn-requires
+    (λ c κs. search needs)  -- read-once-requires
     (λ c. search needs)  -- enum-known-n
     (λ c. search needs)  -- enum-told
     (λ c κs. search needs)  -- finish-requires

@@ -15,8 +15,8 @@ abbrev μ-loop : tie.MeasureT-loop
 pub put-quoted-spec : {M : Type 1} → statement M
 put-quoted-spec =
     tie.close (tie.spec Inv-loop μ-loop
-    (λ c. search needs)  -- slice-aggregate-put
-    (λ c κs. search needs)  -- put-requires
+    (λ c. search needs)  -- slice-aggregate-put-bytes
+    (λ c κs. search needs)  -- put-bytes-requires
     (λ c. search needs)  -- loop-holds
     (λ c. search needs)  -- shared-slice-read-b
     (λ c κs. search needs)  -- put-escaped-requires

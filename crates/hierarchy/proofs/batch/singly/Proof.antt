@@ -4,6 +4,7 @@ use Prim.Native.Nat.{_≤_, _-_}
 use lib.ListN.{length}
 use Rattle.idmap.specs.Line.{linesIn}
 use Rattle.tables.specs.Tables.{tablesOf}
+use Rattle.idmap.specs.Batch.{batchSize}
 use Rattle.hierarchy.specs.Batch.{turnedBy}
 use Rattle.hierarchy.proofs.Batches.{Knows, SinglyTo, translating}
 use Rattle.hierarchy.proofs.batch.singly.Statement.{statement}
@@ -11,13 +12,13 @@ use Rattle.hierarchy.proofs.batch.singly.Tie as tie
 
 abbrev Inv-loop : tie.InvT-loop
 Inv-loop t kind backward lines base place other ids last₀ r₀ i₀ last r i =
-    (i ≤ 20)
-    × (length r ≡ 20)
+    (i ≤ batchSize)
+    × (length r ≡ batchSize)
     × Knows (turnedBy backward (tablesOf t) kind (record { base = base; lines = linesIn lines }) place) other last
     × SinglyTo (turnedBy backward (tablesOf t) kind (record { base = base; lines = linesIn lines }) place) other ids r i
 
 abbrev μ-loop : tie.MeasureT-loop
-μ-loop t kind backward lines base place other ids last₀ r₀ i₀ last r i = 20 - i
+μ-loop t kind backward lines base place other ids last₀ r₀ i₀ last r i = batchSize - i
 
 pub singly-spec : {M : Type 1} → statement M
 singly-spec =

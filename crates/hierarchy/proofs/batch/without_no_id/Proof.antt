@@ -2,15 +2,16 @@
 use mathlib.Core.Path.{_≡_}
 use Prim.Native.Nat.{_≤_, _-_}
 use lib.ListN.{length}
+use Rattle.idmap.specs.Batch.{batchSize}
 use Rattle.hierarchy.proofs.Batches.{OrElseTo, translating}
 use Rattle.hierarchy.proofs.batch.without_no_id.Statement.{statement}
 use Rattle.hierarchy.proofs.batch.without_no_id.Tie as tie
 
 abbrev Inv-loop : tie.InvT-loop
-Inv-loop other ids found r₀ i₀ r i = (i ≤ 20) × (length r ≡ 20) × OrElseTo other ids found r i
+Inv-loop other ids found r₀ i₀ r i = (i ≤ batchSize) × (length r ≡ batchSize) × OrElseTo other ids found r i
 
 abbrev μ-loop : tie.MeasureT-loop
-μ-loop other ids found r₀ i₀ r i = 20 - i
+μ-loop other ids found r₀ i₀ r i = batchSize - i
 
 pub without-no-id-spec : {M : Type 1} → statement M
 without-no-id-spec =

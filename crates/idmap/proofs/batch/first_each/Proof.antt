@@ -2,12 +2,13 @@
 use mathlib.Core.Path.{_≡_}
 use Prim.Native.Nat.{_*_, _≤_}
 use lib.ListN.{length}
+use Rattle.idmap.specs.Line.{lineWords}
 use Rattle.idmap.proofs.Batches.{eachFrom, batches}
 use Rattle.idmap.proofs.batch.first_each.Statement.{statement}
 use Rattle.idmap.proofs.batch.first_each.Tie as tie
 
 abbrev Inv-loop : tie.InvT-loop
-Inv-loop words ids backward other found₀ i₀ found i = (i * 3 ≤ length words) × (found ≡ eachFrom backward other words i ids)
+Inv-loop words ids backward other found₀ i₀ found i = (i * lineWords ≤ length words) × (found ≡ eachFrom backward other words i ids)
 
 abbrev μ-loop : tie.MeasureT-loop
 μ-loop words ids backward other found₀ i₀ found i = i

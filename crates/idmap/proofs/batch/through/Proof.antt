@@ -2,15 +2,16 @@
 use mathlib.Core.Path.{_≡_}
 use Prim.Native.Nat.{_≤_, _-_}
 use lib.ListN.{length}
+use Rattle.idmap.specs.Batch.{batchSize}
 use Rattle.idmap.proofs.Batches.{Through, batches}
 use Rattle.idmap.proofs.batch.through.Statement.{statement}
 use Rattle.idmap.proofs.batch.through.Tie as tie
 
 abbrev Inv-loop : tie.InvT-loop
-Inv-loop l ids found r₀ i₀ r i = (i ≤ 20) × (length r ≡ 20) × Through l ids found r i
+Inv-loop l ids found r₀ i₀ r i = (i ≤ batchSize) × (length r ≡ batchSize) × Through l ids found r i
 
 abbrev μ-loop : tie.MeasureT-loop
-μ-loop l ids found r₀ i₀ r i = 20 - i
+μ-loop l ids found r₀ i₀ r i = batchSize - i
 
 pub through-spec : {M : Type 1} → statement M
 through-spec =

@@ -21,8 +21,8 @@ clear-spec =
     (λ c. search overlaps)  -- mul-apart
     (λ c. search overlaps)  -- array-copy-out-apart
     (λ c κs. search overlaps)  -- apart-requires
+    (λ c. search overlaps)  -- returns-2
     (λ c. search overlaps)  -- add-j
     (λ c. search overlaps)  -- loop-less
     (λ c. search overlaps)  -- loop-again
-    (λ c. search overlaps)  -- returns-2
     (λ c. search overlaps))  -- returns-3

@@ -21,11 +21,11 @@ good-spec =
     (λ c. search overlaps)  -- mul-l
     (λ c. search overlaps)  -- array-copy-out-l
     (λ c κs. search overlaps)  -- bounded-requires
+    (λ c. search overlaps)  -- returns-2
     (λ c. search overlaps)  -- add-clear
     (λ c κs. search overlaps)  -- clear-requires
+    (λ c. search overlaps)  -- returns-3
     (λ c. search overlaps)  -- add-i
     (λ c. search overlaps)  -- loop-less
     (λ c. search overlaps)  -- loop-again
-    (λ c. search overlaps)  -- returns-2
-    (λ c. search overlaps)  -- returns-3
     (λ c. search overlaps))  -- returns-4

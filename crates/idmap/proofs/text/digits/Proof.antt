@@ -27,6 +27,7 @@ digits-spec =
     (λ c. search scans)  -- sub-v
     (λ c. search scans)  -- cast-v
     (λ c. search scans)  -- add-v
+    (λ c. search scans)  -- cast-if2
     (λ c. search scans)  -- returns-2
     (λ c. search scans)  -- add-i
     (λ c. search scans)  -- loop-less

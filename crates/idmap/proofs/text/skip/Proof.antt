@@ -19,8 +19,8 @@ skip-spec =
     (λ c. search scans)  -- loop-holds
     (λ c. search scans)  -- shared-slice-read-is-blank
     (λ c κs. search scans)  -- is-blank-requires
+    (λ c. search scans)  -- returns
     (λ c. search scans)  -- add-i
     (λ c. search scans)  -- loop-less
     (λ c. search scans)  -- loop-again
-    (λ c. search scans)  -- returns
     (λ c. search scans))  -- returns-2

@@ -8,6 +8,6 @@ add-spec =
     tie.close (tie.spec
     (λ c. search adding)  -- returns
     (λ c. search adding)  -- returns-2
-    (λ c κs. search adding)  -- put-requires
+    (λ c κs. search adding)  -- put-place-requires
     (λ c. search adding)  -- add-result
     (λ c. search adding))  -- returns-3

@@ -7,7 +7,7 @@ pub lift-spec : {M : Type 1} → statement M
 lift-spec =
     tie.close (tie.spec
     (λ c κs. search adding)  -- put-pieces-requires
-    (λ c κs. search adding)  -- put-lines-requires
+    (λ c κs. search adding)  -- put-unlifted-requires
     (λ c κs. search adding)  -- put-head-requires
     (λ c. search adding)  -- returns
     (λ c. search adding))  -- returns-2

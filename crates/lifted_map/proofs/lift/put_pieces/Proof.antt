@@ -4,6 +4,7 @@ use mathlib.Core.List.{[]}
 use mathlib.Core.Option.{some}
 use Prim.Native.Nat.{_-_, min}
 use lib.ListN.{take, drop}
+use Rattle.idmap.specs.Good.{maxLines}
 use Rattle.idmap.specs.Line.{linesIn}
 use Rattle.lifted_map.specs.Adding.{piecesIn}
 use Rattle.lifted_map.proofs.Adding.{addedLines}
@@ -12,7 +13,7 @@ use Rattle.lifted_map.proofs.lift.put_pieces.Statement.{statement}
 use Rattle.lifted_map.proofs.lift.put_pieces.Tie as tie
 
 abbrev Inv-loop : tie.InvT-loop
-Inv-loop row₀ above count lines end n₀ i₀ row n i = (end ≡ min count 5) × (addedLines (piecesIn row n) (linesIn above) (drop i (take count lines)) ≡ addedLines (some []) (linesIn above) (take count lines))
+Inv-loop row₀ above count lines end n₀ i₀ row n i = (end ≡ min count maxLines) × (addedLines (piecesIn row n) (linesIn above) (drop i (take count lines)) ≡ addedLines (some []) (linesIn above) (take count lines))
 
 abbrev μ-loop : tie.MeasureT-loop
 μ-loop row₀ above count lines end n₀ i₀ row n i = end - i

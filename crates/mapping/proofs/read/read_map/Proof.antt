@@ -3,7 +3,7 @@ use mathlib.Core.Path.{_≡_}
 use native.Mathlib.Omega.{arith}
 use lib.ListN.{length}
 use borrow.Author.Needs.{needs}
-use Rattle.rows.proofs.Lists.{length-mapped}
+use Rattle.prelude.proofs.Made.{length-mapped}
 use Rattle.mapping.proofs.Reading.{map-short, map-read, reading}
 use Rattle.mapping.proofs.read.read_map.Statement.{statement}
 use Rattle.mapping.proofs.read.read_map.Tie as tie

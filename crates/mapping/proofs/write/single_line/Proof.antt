@@ -3,7 +3,7 @@ use mathlib.Core.Path.{_≡_}
 use native.Mathlib.Omega.{arith}
 use borrow.Author.Needs.{needs}
 use lib.ListN.{length}
-use Rattle.rows.proofs.Lists.{length-mapped}
+use Rattle.prelude.proofs.Made.{length-mapped}
 use Rattle.mapping.proofs.Writes.{single-foreign, single-owned, single-unowned, tests}
 use Rattle.mapping.proofs.write.single_line.Statement.{statement}
 use Rattle.mapping.proofs.write.single_line.Tie as tie

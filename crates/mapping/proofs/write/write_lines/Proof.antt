@@ -11,14 +11,14 @@ returns-3 c =
     let target = tested .before .before .before .before in
     let allowed = target .before .before .before in
     let read = allowed .before .before .before in
-    lines-done _ _ _ _ _ _ _ (read .before .before .before .read-map .ensures) _ (read .parsed .given .1) _ (allowed .may-map .ensures) (target .before .before .if1 .taken)
+    lines-done _ _ _ _ _ _ _ (read .before .before .before .parse-map .ensures) _ (read .parsed .given .1) _ (allowed .may-map .ensures) (target .before .before .if1 .taken)
     _ (target .namespace-at .ensures) _ (tested .before .before .map-lines .ensures) _ (tested .before .all-covered .ensures) _ _ _ _ _ _ (tested .if2 .taken)
     (lifted .before .before .before .lifted-lines .ensures) (lifted .before .before .lifted-base .ensures) (lifted .lift .ensures) (stored .before .with-map .ensures) (stored .namespace-put .ensures) (c .lifted-map-put .ensures)
 
 pub write-lines-spec : {M : Type 1} → statement M
 write-lines-spec =
     tie.close (tie.spec
-    (λ c κs. search writing)  -- read-map-requires
+    (λ c κs. search writing)  -- parse-map-requires
     (λ c. search writing)  -- enum-known-parsed
     (λ c. search writing)  -- enum-told
     (λ c. search writing)  -- returns

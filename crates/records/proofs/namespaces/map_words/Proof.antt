@@ -1,5 +1,5 @@
 -- `records::namespaces::map_words` meets its contract. Assumes nothing.
-use Rattle.rows.proofs.Lists.{length-mapped}
+use Rattle.prelude.proofs.Made.{length-mapped}
 use Rattle.records.proofs.Records.{records}
 use Rattle.records.proofs.namespaces.map_words.Statement.{statement}
 use Rattle.records.proofs.namespaces.map_words.Tie as tie

@@ -1,10 +1,10 @@
--- `console::output::put` meets its contract. Assumes nothing.
+-- `console::output::put_bytes` meets its contract. Assumes nothing.
 use mathlib.Core.Path.{_≡_}
 use Prim.Native.Nat.{_-_}
 use lib.ListN.{length}
 use borrow.Author.Needs.{needs}
-use Rattle.console.proofs.output.put.Statement.{statement}
-use Rattle.console.proofs.output.put.Tie as tie
+use Rattle.console.proofs.output.put_bytes.Statement.{statement}
+use Rattle.console.proofs.output.put_bytes.Tie as tie
 
 abbrev Inv-loop : tie.InvT-loop
 Inv-loop out₀ at text end₀ i₀ out end i = length out ≡ length out₀
@@ -12,8 +12,8 @@ Inv-loop out₀ at text end₀ i₀ out end i = length out ≡ length out₀
 abbrev μ-loop : tie.MeasureT-loop
 μ-loop out₀ at text end₀ i₀ out end i = length text - i
 
-pub put-spec : {M : Type 1} → statement M
-put-spec =
+pub put-bytes-spec : {M : Type 1} → statement M
+put-bytes-spec =
     tie.close (tie.spec Inv-loop μ-loop
     (λ c. search needs)  -- loop-holds
     (λ c. search needs)  -- shared-slice-read-b

@@ -1,10 +1,10 @@
--- `idmap::text::read_line` meets its contract. Assumes nothing.
+-- `idmap::text::parse_line` meets its contract. Assumes nothing.
 use Rattle.idmap.proofs.Scans.{scans}
-use Rattle.idmap.proofs.text.read_line.Statement.{statement}
-use Rattle.idmap.proofs.text.read_line.Tie as tie
+use Rattle.idmap.proofs.text.parse_line.Statement.{statement}
+use Rattle.idmap.proofs.text.parse_line.Tie as tie
 
-pub read-line-spec : {M : Type 1} → statement M
-read-line-spec =
+pub parse-line-spec : {M : Type 1} → statement M
+parse-line-spec =
     tie.close (tie.spec
     (λ c κs. search scans)  -- field-requires
     (λ c. search scans)  -- enum-known-a

@@ -1,10 +1,10 @@
--- `console::tokens::same` meets its contract. Assumes nothing.
+-- `console::tokens::equals` meets its contract. Assumes nothing.
 use mathlib.Core.Path.{_≡_}
 use Prim.Native.Nat.{_-_}
 use lib.ListN.{length}
 use borrow.Author.Needs.{needs}
-use Rattle.console.proofs.tokens.same.Statement.{statement}
-use Rattle.console.proofs.tokens.same.Tie as tie
+use Rattle.console.proofs.tokens.equals.Statement.{statement}
+use Rattle.console.proofs.tokens.equals.Tie as tie
 
 abbrev Inv-loop : tie.InvT-loop
 Inv-loop a b i₀ i = length a ≡ length b
@@ -12,8 +12,8 @@ Inv-loop a b i₀ i = length a ≡ length b
 abbrev μ-loop : tie.MeasureT-loop
 μ-loop a b i₀ i = length a - i
 
-pub same-spec : {M : Type 1} → statement M
-same-spec =
+pub equals-spec : {M : Type 1} → statement M
+equals-spec =
     tie.close (tie.spec Inv-loop μ-loop
     (λ c. search needs)  -- returns
     (λ c. search needs)  -- loop-holds

@@ -1,10 +1,10 @@
--- `lifted_map::lift::put` meets its contract. Assumes nothing.
+-- `lifted_map::lift::put_place` meets its contract. Assumes nothing.
 use Rattle.lifted_map.proofs.Adding.{adding}
-use Rattle.lifted_map.proofs.lift.put.Statement.{statement}
-use Rattle.lifted_map.proofs.lift.put.Tie as tie
+use Rattle.lifted_map.proofs.lift.put_place.Statement.{statement}
+use Rattle.lifted_map.proofs.lift.put_place.Tie as tie
 
-pub put-spec : {M : Type 1} → statement M
-put-spec =
+pub put-place-spec : {M : Type 1} → statement M
+put-place-spec =
     tie.close (tie.spec
     (λ c. search adding)  -- cast-t5
     (λ c. search adding)  -- cast-t6
