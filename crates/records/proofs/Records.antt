@@ -1,5 +1,5 @@
 -- A record's words are read as the record: laws for the code that lays a record out. Assumes nothing.
-use Prim.Native.Nat.{ℕ, zero, suc, _+_, _%_, _^_}
+use Prim.Native.Nat.{ℕ, zero, suc, _+_, _*_, _%_, _^_}
 use mathlib.Core.Path.{_≡_, refl, sym, ap, ap₂, _∙_}
 use mathlib.Core.Bool.{Bool, true, false}
 use mathlib.Core.List.{List, [], _∷_, _++_}
@@ -14,7 +14,7 @@ use Rattle.prelude.proofs.Lists.{copy-step, copy-all}
 use Rattle.prelude.specs.Lists.{tab}
 use Rattle.prelude.proofs.Made.{tab-all}
 use Rattle.idmap.specs.declared.Line.{Line}
-use Rattle.idmap.specs.Line.{noLine, lineOfWords, lineAt}
+use Rattle.idmap.specs.Line.{noLine, lineWords, lineOfWords, lineAt}
 use Rattle.idmap.specs.Good.{maxLines}
 use Rattle.records.specs.declared.Kind.the-variants.{User, Group}
 use Rattle.records.specs.declared.MapState.{MapState}
@@ -80,7 +80,8 @@ state-round Unwritten = refl
 state-round (Written n) = refl
 
 -- a map from its words, line by line
-pub map-read : (ws : List ℕ) (a b c d e : Line) (s : MapState) → a ≡ lineAt ws 2 → b ≡ lineAt ws 5 → c ≡ lineAt ws 8 → d ≡ lineAt ws 11 → e ≡ lineAt ws 14
+pub map-read : (ws : List ℕ) (a b c d e : Line) (s : MapState) → a ≡ lineAt ws (2 + lineWords * 0) → b ≡ lineAt ws (2 + lineWords * 1) → c ≡ lineAt ws (2 + lineWords * 2)
+    → d ≡ lineAt ws (2 + lineWords * 3) → e ≡ lineAt ws (2 + lineWords * 4)
     → s ≡ stateOf (getD ws 0 0) (getD ws 1 0) → _≡_ {A = IdMap} (record { state = s; lines = a ∷ b ∷ c ∷ d ∷ e ∷ [] }) (mapOf ws)
 map-read ws a b c d e s p q r t u v = λ i. record { state = v i; lines = p i ∷ q i ∷ r i ∷ t i ∷ u i ∷ [] }
 

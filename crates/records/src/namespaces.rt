@@ -1,8 +1,9 @@
 // A namespace and its row of words, and the words of a map in it.
 ghost use mathlib.Core.Path.{_≡_};
-ghost use Prim.Native.Nat.{_+_, _<_};
+ghost use Prim.Native.Nat.{_+_, _*_, _<_};
 ghost use lib.ListN.{length};
-ghost use Rattle.idmap.specs.Line.{lineAt, linesIn};
+ghost use Rattle.idmap.specs.Good.{maxLines};
+ghost use Rattle.idmap.specs.Line.{lineWords, lineAt, linesIn};
 ghost use Rattle.records.specs.Records.{stateOf, stateTag, stateCount, mapWidth, mapAt, mapOf, mapFrom, linesOf, freeMap, freeNamespace, namespaceWidth, namespaceOf, namespaceFrom};
 use crate::IdMap;
 use crate::Kind;
@@ -86,11 +87,12 @@ fn state_count(s: MapState) -> u64
     }
 }
 
-// The line whose words stand from place `at` on.
-fn line_of(words: &[u64], at: usize) -> Line
-    requires { ⌜ at + 2 < length (now words) ⌝ }
-    ensures { λ r. ⌜ r ≡ lineAt (now (words .entry)) at ⌝ }
+// Line `i` of a map's words.
+fn line_of(words: &[u64], i: usize) -> Line
+    requires { ⌜ (i < maxLines) × (length (now words) ≡ mapWidth) ⌝ }
+    ensures { λ r. ⌜ r ≡ lineAt (now (words .entry)) (2 + lineWords * i) ⌝ }
 {
+    let at = LINES + LINE_WORDS * i;
     Line {
         inside: (words[at] % TWO_TO_32) as u32,
         parent: (words[at + 1] % TWO_TO_32) as u32,
@@ -103,11 +105,11 @@ fn map_of(words: &[u64]) -> IdMap
     requires { ⌜ length (now words) ≡ mapWidth ⌝ }
     ensures { λ r. ⌜ r ≡ mapOf (now (words .entry)) ⌝ }
 {
-    let a = line_of(words, LINES);
-    let b = line_of(words, LINES + LINE_WORDS);
-    let c = line_of(words, LINES + 2 * LINE_WORDS);
-    let d = line_of(words, LINES + 3 * LINE_WORDS);
-    let e = line_of(words, LINES + 4 * LINE_WORDS);
+    let a = line_of(words, 0);
+    let b = line_of(words, 1);
+    let c = line_of(words, 2);
+    let d = line_of(words, 3);
+    let e = line_of(words, 4);
     IdMap {
         state: state_of(words[STATE], words[COUNT]),
         lines: [a, b, c, d, e],

@@ -7,13 +7,9 @@ pub map-of-spec : {M : Type 1} → statement M
 map-of-spec =
     tie.close (tie.spec
     (λ c κs. search records)  -- line-of-requires
-    (λ c. search records)  -- add-line-of
     (λ c κs. search records)  -- line-of-requires-2
-    (λ c. search records)  -- add-line-of-2
     (λ c κs. search records)  -- line-of-requires-3
-    (λ c. search records)  -- add-line-of-3
     (λ c κs. search records)  -- line-of-requires-4
-    (λ c. search records)  -- add-line-of-4
     (λ c κs. search records)  -- line-of-requires-5
     (λ c. search records)  -- shared-slice-read-state-of
     (λ c. search records)  -- shared-slice-read-state-of-2
