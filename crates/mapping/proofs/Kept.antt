@@ -9,7 +9,7 @@ use Rattle.records.specs.declared.Kind.{Kind}
 use Rattle.tables.specs.declared.find.Found.{Found}
 use Rattle.tables.specs.declared.find.Found.the-variants.{At, Nothing}
 use Rattle.tables.specs.Tables.{State}
-use Rattle.tables.specs.Find.{processNamed}
+use Rattle.tables.specs.Find.{callerNamed, processNamed}
 use Rattle.tables.specs.Reply.{refused, isRefused, onFound}
 use Rattle.hierarchy.specs.Walks.{Translation}
 use Rattle.mapping.specs.Calls.{ReadOutcome, readText, readMapOf, readSetgroupsOf}
@@ -32,9 +32,9 @@ found-kept buffer Nothing next h = λ e. refl
 pub read-map-kept : (by : Translation) (s : State) (kind : Kind) (c name : ℕ) (buffer : List ℕ) → Leaves buffer (readMapOf by s kind c name buffer)
 unfolding readMapOf
 read-map-kept by s kind c name buffer =
-    found-kept buffer (processNamed s c) _ (λ r. found-kept buffer (processNamed s name) _ (λ p. text-kept _ buffer))
+    found-kept buffer (callerNamed s c) _ (λ r. found-kept buffer (processNamed s r name) _ (λ p. text-kept _ buffer))
 
 pub read-setgroups-kept : (s : State) (c name : ℕ) (buffer : List ℕ) → Leaves buffer (readSetgroupsOf s c name buffer)
 unfolding readSetgroupsOf
 read-setgroups-kept s c name buffer =
-    found-kept buffer (processNamed s c) _ (λ r. found-kept buffer (processNamed s name) _ (λ p. text-kept _ buffer))
+    found-kept buffer (callerNamed s c) _ (λ r. found-kept buffer (processNamed s r name) _ (λ p. text-kept _ buffer))

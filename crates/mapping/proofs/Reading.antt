@@ -20,7 +20,8 @@ use Rattle.idmap.specs.declared.Line.{Line}
 use Rattle.idmap.specs.declared.Translated.{Translated}
 use Rattle.idmap.specs.declared.Translated.the-variants.{Id, Unmapped}
 use Rattle.idmap.specs.Lookup.{orNoId}
-use Rattle.idmap.specs.Show.{lineText, linesText}
+use Rattle.idmap.specs.Good.{maxLines, noId}
+use Rattle.idmap.specs.Show.{lineBytes, lineText, linesText}
 use Rattle.idmap.proofs.Shows.{length-line-text, length-lines-text}
 use Rattle.records.specs.declared.Kind.{Kind}
 use Rattle.records.specs.declared.MapState.{MapState}
@@ -32,7 +33,7 @@ use Rattle.records.specs.Records.{mapIn, linesIf}
 use Rattle.tables.specs.declared.find.Found.{Found}
 use Rattle.tables.specs.declared.find.Found.the-variants.{At, Nothing}
 use Rattle.tables.specs.Tables.{State, processAt, namespaceAt}
-use Rattle.tables.specs.Find.{processNamed}
+use Rattle.tables.specs.Find.{callerNamed, processNamed}
 use Rattle.tables.specs.Reply.{refused, bytes}
 use Rattle.hierarchy.specs.Walks.{Translation}
 use Rattle.hierarchy.specs.Lifted.{toKernel, fromKernel, byLiftedMaps}
@@ -57,16 +58,16 @@ module _ (s : State) (kind : Kind) (n v : ℕ) (l : Line) (t : Namespace) (read 
   unfolding shownLine byLiftedMaps
   shown-id x y b e f g = rw (g, f, ← read, ← start, e)
 
-  pub shown-none : a ≡ Unmapped → _≡_ {A = Line} (record { inside = l .inside; parent = 4294967295; count = l .count }) (shownLine (byLiftedMaps s) s kind n v l)
+  pub shown-none : a ≡ Unmapped → _≡_ {A = Line} (record { inside = l .inside; parent = noId; count = l .count }) (shownLine (byLiftedMaps s) s kind n v l)
   unfolding shownLine byLiftedMaps
   shown-none e = rw (← read, ← start, e)
 
 -- ---- line_count
 module _ (st : MapState) (n : ℕ) (written : st ≡ Written n) where
-  pub count-some : n < 5 → n ≡ lineCount st
+  pub count-some : n < maxLines → n ≡ lineCount st
   count-some h = rw written (omega arith)
 
-  pub count-most : 5 ≤ n → 5 ≡ lineCount st
+  pub count-most : maxLines ≤ n → maxLines ≡ lineCount st
   count-most h = rw written (omega arith)
 
 pub count-bounded : (st : MapState) (k : ℕ) → k ≡ lineCount st → k ≤ 5
@@ -106,13 +107,13 @@ module _ (by : Translation) (s : State) (kind : Kind) (n v : ℕ) (b : List ℕ)
 
   module _ (t : List ℕ) (i count : ℕ) (inv : t ≡ putAt b 0 (linesText (map (shownLine by s kind n v) (take i ls)))) where
     -- one more line is in place
-    pub lines-step : (d l : Line) (t′ : List ℕ) → length ls ≡ 5 → count ≤ 5 → count * 33 ≤ length b → i < count
-        → l ≡ shownLine by s kind n v (getD ls i d) → t′ ≡ putAt t (i * 33) (lineText l)
+    pub lines-step : (d l : Line) (t′ : List ℕ) → length ls ≡ maxLines → count ≤ maxLines → count * lineBytes ≤ length b → i < count
+        → l ≡ shownLine by s kind n v (getD ls i d) → t′ ≡ putAt t (i * lineBytes) (lineText l)
         → t′ ≡ putAt b 0 (linesText (map (shownLine by s kind n v) (take (i + 1) ls)))
     lines-step d l t′ long most room h e q =
         let before = map (shownLine by s kind n v) (take i ls) in
         let k : length (take i ls) ≡ i = length-take-le i ls (omega arith) in
-        let z : length (linesText before) ≡ i * 33 = omega (arith, length-lines-text before, length-map (take i ls) (shownLine by s kind n v)) in
+        let z : length (linesText before) ≡ i * lineBytes = omega (arith, length-lines-text before, length-map (take i ls) (shownLine by s kind n v)) in
         let f : length (linesText before) + length (lineText l) ≤ length b = omega (arith, length-line-text l) in
         let text : linesText (map (shownLine by s kind n v) (take (i + 1) ls)) ≡ linesText before ++ lineText l =
         rw (add-one, take-suc ls i d (omega arith), map-snoc, lines-text-snoc, e) in
@@ -127,36 +128,36 @@ length-stored b t t′ vs at q e = ap length q ∙ length-put t at vs ∙ e
 
 -- ---- read_map
 -- a map's lines are the first of its places
-lines-counted : (st : MapState) (ls : List Line) → length ls ≡ 5 → linesIf st ls ≡ take (lineCount st) ls
+lines-counted : (st : MapState) (ls : List Line) → length ls ≡ maxLines → linesIf st ls ≡ take (lineCount st) ls
 lines-counted Unwritten ls e = refl
 lines-counted (Written n) ls e = by-test (leb n 5)
-    (λ t. let h = leb-true n 5 t in let k : n ≡ min n 5 = omega arith in rw (← k))
-    (λ t. let h = leb-false n 5 t in take-all n ls (omega arith) ∙ sym (take-all (min n 5) ls (omega arith)))
+    (λ t. let h = leb-true n maxLines t in let k : n ≡ min n maxLines = omega arith in rw (← k))
+    (λ t. let h = leb-false n maxLines t in take-all n ls (omega arith) ∙ sym (take-all (min n maxLines) ls (omega arith)))
 
-module _ (by : Translation) (s : State) (kind : Kind) (c name : ℕ) (b : List ℕ) (f : Found) (caller : f ≡ processNamed s c) where
+module _ (by : Translation) (s : State) (kind : Kind) (c name : ℕ) (b : List ℕ) (f : Found) (caller : f ≡ callerNamed s c) where
   pub map-no-reader : f ≡ Nothing → _≡_ {A = ReadOutcome} (record { reply = refused 3; buffer = b }) (readMapOf by s kind c name b)
   unfolding readMapOf
   map-no-reader e = rw (← caller, e)
 
-  module _ (i : ℕ) (reader : f ≡ At i) (g : Found) (named : g ≡ processNamed s name) where
+  module _ (i : ℕ) (reader : f ≡ At i) (g : Found) (named : g ≡ processNamed s i name) where
     pub map-no-process : g ≡ Nothing → _≡_ {A = ReadOutcome} (record { reply = refused 3; buffer = b }) (readMapOf by s kind c name b)
     unfolding readMapOf
     map-no-process e = rw (← caller, reader, ← named, e)
 
     module _ (j : ℕ) (place : g ≡ At j) (p : Process) (process : p ≡ processAt s j) (t : Namespace) (target : t ≡ namespaceAt s (p .namespace))
-        (m : IdMap) (read : m ≡ mapIn kind t) (long : length (m .lines) ≡ 5) (k : ℕ) (count : k ≡ lineCount (m .state)) where
+        (m : IdMap) (read : m ≡ mapIn kind t) (long : length (m .lines) ≡ maxLines) (k : ℕ) (count : k ≡ lineCount (m .state)) where
       map-text : (r : Process) → r ≡ processAt s i
           → readMapOf by s kind c name b ≡ readText (linesText (map (shownLine by s kind (p .namespace) (viewOf s r (p .namespace))) (take k (m .lines)))) b
       unfolding readMapOf mapTextOf
       map-text r e = rw (← caller, reader, ← named, place, ← process, ← e, ← target, ← read, lines-counted (m .state) (m .lines) long, ← count)
 
-      length-text : (h : Line → Line) → length (linesText (map h (take k (m .lines)))) ≡ k * 33
+      length-text : (h : Line → Line) → length (linesText (map h (take k (m .lines)))) ≡ k * lineBytes
       length-text h =
           let bound = count-bounded (m .state) k count in
           let front : length (take k (m .lines)) ≡ k = length-take-le k (m .lines) (omega arith) in
           omega (arith, length-lines-text (map h (take k (m .lines))), length-map (take k (m .lines)) h)
 
-      pub map-short : length b < k * 33 → _≡_ {A = ReadOutcome} (record { reply = refused 34; buffer = b }) (readMapOf by s kind c name b)
+      pub map-short : length b < k * lineBytes → _≡_ {A = ReadOutcome} (record { reply = refused 34; buffer = b }) (readMapOf by s kind c name b)
       unfolding readText
       map-short h =
           let w = shownLine by s kind (p .namespace) (viewOf s (processAt s i) (p .namespace)) in
@@ -164,9 +165,9 @@ module _ (by : Translation) (s : State) (kind : Kind) (c name : ℕ) (b : List �
           let over : length b < 0 + length text = omega (arith, length-text w) in
           sym (map-text (processAt s i) refl ∙ rw (fits-outside b 0 text over, put-outside b 0 text over))
 
-      pub map-read : (r : Process) (v : ℕ) (b′ : List ℕ) → r ≡ processAt s i → k * 33 ≤ length b → v ≡ viewOf s r (p .namespace)
+      pub map-read : (r : Process) (v : ℕ) (b′ : List ℕ) → r ≡ processAt s i → k * lineBytes ≤ length b → v ≡ viewOf s r (p .namespace)
           → b′ ≡ putAt b 0 (linesText (map (shownLine by s kind (p .namespace) v) (take k (m .lines))))
-          → _≡_ {A = ReadOutcome} (record { reply = bytes (k * 33); buffer = b′ }) (readMapOf by s kind c name b)
+          → _≡_ {A = ReadOutcome} (record { reply = bytes (k * lineBytes); buffer = b′ }) (readMapOf by s kind c name b)
       unfolding readText
       map-read r v b′ e h see q =
           let w = shownLine by s kind (p .namespace) v in
@@ -185,12 +186,12 @@ module _ (text b : List ℕ) (r : Bool) (fits : r ≡ fitsAt b 0 text) (b′ : L
   word-long e = rw (← fits, e, put)
 
 -- ---- read_setgroups
-module _ (s : State) (c name : ℕ) (b : List ℕ) (f : Found) (caller : f ≡ processNamed s c) where
+module _ (s : State) (c name : ℕ) (b : List ℕ) (f : Found) (caller : f ≡ callerNamed s c) where
   pub setting-no-reader : f ≡ Nothing → _≡_ {A = ReadOutcome} (record { reply = refused 3; buffer = b }) (readSetgroupsOf s c name b)
   unfolding readSetgroupsOf
   setting-no-reader e = rw (← caller, e)
 
-  module _ (i : ℕ) (reader : f ≡ At i) (g : Found) (named : g ≡ processNamed s name) where
+  module _ (i : ℕ) (reader : f ≡ At i) (g : Found) (named : g ≡ processNamed s i name) where
     pub setting-no-process : g ≡ Nothing → _≡_ {A = ReadOutcome} (record { reply = refused 3; buffer = b }) (readSetgroupsOf s c name b)
     unfolding readSetgroupsOf
     setting-no-process e = rw (← caller, reader, ← named, e)

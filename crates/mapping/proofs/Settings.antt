@@ -11,6 +11,8 @@ use lib.ListN.{length, getD, drop, drop-of-length-le}
 use lib.Seq.{drop-cons}
 use borrow.Author.Needs.{needs}
 use borrow.Author.Tests.{eq-eqb, ne-eqb}
+use Rattle.prelude.proofs.Tests.{not-taken, not-left}
+use Rattle.capability.specs.Sets.{capSysAdmin}
 use Rattle.records.specs.declared.Process.{Process}
 use Rattle.records.specs.declared.Namespace.{Namespace}
 use Rattle.records.specs.Records.{isWritten}
@@ -20,7 +22,7 @@ use Rattle.tables.specs.declared.answer.Answer.the-variants.{Refused, Done}
 use Rattle.tables.specs.declared.find.Found.{Found}
 use Rattle.tables.specs.declared.find.Found.the-variants.{At, Nothing}
 use Rattle.tables.specs.Tables.{tablesOf, processAt, namespaceAt, putNamespace}
-use Rattle.tables.specs.Find.{processNamed}
+use Rattle.tables.specs.Find.{callerNamed, processNamed}
 use Rattle.tables.specs.Reply.{Promise}
 use Rattle.tables.proofs.Promises.{refuses, answers}
 use Rattle.hierarchy.specs.Walks.{capableIn}
@@ -28,7 +30,7 @@ use Rattle.mapping.specs.declared.setgroups.Setting.{Setting}
 use Rattle.mapping.specs.declared.setgroups.Setting.the-variants.{Deny, Allow, Neither}
 use Rattle.mapping.specs.Calls.{denyText, allowText, sameBytes, isWord, withDeny, settingIn, settingOf, writeSetgroupsTo, writeSetgroupsOf}
 
--- ---- same
+-- ---- same_bytes
 and-false : (t : Bool) → (t && false) ≡ false
 and-false true = refl
 and-false false = refl
@@ -107,7 +109,7 @@ setting-neither s none e q = refl
 setting-neither s (some true) e q = let z : Deny ≡ Neither = sym e ∙ q in cc
 setting-neither s (some false) e q = let z : Allow ≡ Neither = sym e ∙ q in cc
 
-module _ (l : List ℕ) (w : Process) (n : ℕ) (text : List ℕ) (may : Bool) (capable : may ≡ capableIn (tablesOf l) w n 21) where
+module _ (l : List ℕ) (w : Process) (n : ℕ) (text : List ℕ) (may : Bool) (capable : may ≡ capableIn (tablesOf l) w n capSysAdmin) where
   pub write-denied : may ≡ false → Promise (Refused EPERM) l l (writeSetgroupsTo (tablesOf l) w n text)
   unfolding writeSetgroupsTo
   write-denied e = refuses EPERM l _ (rw (← capable, e))
@@ -140,12 +142,12 @@ module _ (l : List ℕ) (w : Process) (n : ℕ) (text : List ℕ) (may : Bool) (
           answers Done l l′ _ refl (rw (put, ← capable, able, setting-allow a (settingIn text) asked allows, ← target, e, made))
 
 -- ---- write_setgroups
-module _ (l : List ℕ) (c name : ℕ) (text : List ℕ) (f : Found) (caller : f ≡ processNamed (tablesOf l) c) where
+module _ (l : List ℕ) (c name : ℕ) (text : List ℕ) (f : Found) (caller : f ≡ callerNamed (tablesOf l) c) where
   pub write-no-writer : f ≡ Nothing → Promise (Refused ESRCH) l l (writeSetgroupsOf (tablesOf l) c name text)
   unfolding writeSetgroupsOf
   write-no-writer e = refuses ESRCH l _ (rw (← caller, e))
 
-  module _ (i : ℕ) (writer : f ≡ At i) (g : Found) (named : g ≡ processNamed (tablesOf l) name) where
+  module _ (i : ℕ) (writer : f ≡ At i) (g : Found) (named : g ≡ processNamed (tablesOf l) i name) where
     pub write-no-process : g ≡ Nothing → Promise (Refused ESRCH) l l (writeSetgroupsOf (tablesOf l) c name text)
     unfolding writeSetgroupsOf
     write-no-process e = refuses ESRCH l _ (rw (← caller, writer, ← named, e))
@@ -177,5 +179,7 @@ pub ruleset settings = (
   write-no-writer,
   write-no-process,
   write-there,
+  not-taken,
+  not-left,
   needs,
 )

@@ -10,6 +10,7 @@ use lib.ListN.{length, take, drop, getD, replicate}
 use lib.Seq.{take-append-seam}
 use borrow.Author.Needs.{needs}
 use borrow.Author.Tests.{eq-eqb, ne-eqb, lt-ltb, le-ltb}
+use Rattle.prelude.proofs.Tests.{not-taken, not-left}
 use Rattle.prelude.proofs.Lists.{left-step, left-none}
 use Rattle.idmap.specs.declared.Line.{Line}
 use Rattle.idmap.specs.declared.Translated.{Translated}
@@ -19,7 +20,7 @@ use Rattle.idmap.specs.declared.text.Parsed.the-variants.{Lines, Bad}
 use Rattle.idmap.specs.Line.{noLine, linesIn}
 use Rattle.idmap.specs.Good.{maxLines}
 use Rattle.idmap.specs.Cover.{coveredOf}
-use Rattle.idmap.specs.Text.{mapLines, mapText, padded}
+use Rattle.idmap.specs.Text.{maxTextBytes, mapLines, mapText, padded}
 use Rattle.lifted_map.specs.Lift.{liftedOf, liftedIn}
 use Rattle.records.specs.declared.Kind.{Kind}
 use Rattle.records.specs.declared.Kind.the-variants.{User, Group}
@@ -35,7 +36,7 @@ use Rattle.tables.specs.declared.answer.Answer.the-variants.{Refused, Done}
 use Rattle.tables.specs.declared.find.Found.{Found}
 use Rattle.tables.specs.declared.find.Found.the-variants.{At, Nothing}
 use Rattle.tables.specs.Tables.{State, tablesOf, processAt, namespaceAt, liftedAt, putNamespace, putLiftedMap}
-use Rattle.tables.specs.Find.{processNamed}
+use Rattle.tables.specs.Find.{callerNamed, processNamed}
 use Rattle.tables.specs.Reply.{Outcome, Promise}
 use Rattle.tables.proofs.Promises.{refuses, answers}
 use Rattle.hierarchy.specs.Walks.{Translation, capableIn}
@@ -43,14 +44,14 @@ use Rattle.hierarchy.specs.Lifted.{toKernel, byLiftedMaps}
 use Rattle.mapping.specs.Calls.{isNear, isId, mayByKind, singleLine, mayMap, allCovered, withMap, writtenMap, mappedTables, writeLinesTo, writeMapTo, writeMapOf}
 
 -- ---- near
-module _ (s : State) (w : Process) (n : ℕ) where
-  pub near-in : w .namespace ≡ n → true ≡ isNear s w n
+module _ (w : Process) (n : ℕ) (m : Namespace) where
+  pub near-in : w .namespace ≡ n → true ≡ isNear w n m
   unfolding isNear
   near-in e = rw (eq-eqb (w .namespace) n e)
 
-  pub near-parent : (m : Namespace) → (w .namespace ≡ n → ⊥) → m ≡ namespaceAt s n → eqb (w .namespace) (m .parent) ≡ isNear s w n
+  pub near-parent : (w .namespace ≡ n → ⊥) → eqb (w .namespace) (m .parent) ≡ isNear w n m
   unfolding isNear
-  near-parent m e q = rw (ne-eqb (w .namespace) n e, q)
+  near-parent e = rw (ne-eqb (w .namespace) n e)
 
 -- ---- is_id
 pub id-is : (r : Translated) (x y : ℕ) → r ≡ Id x → eqb x y ≡ isId r y
@@ -64,48 +65,48 @@ one-line : (ls : List Line) (d : Line) → 0 < length ls → take 1 ls ≡ getD 
 one-line [] d h = absurd (omega arith)
 one-line (l ∷ ls) d h = refl
 
-not-one : (by : Translation) (s : State) (kind : Kind) (w : Process) (n : ℕ) (ls : List Line) (count : ℕ) → 1 < length ls → (count ≡ 1 → ⊥) → false ≡ singleLine by s kind w n (take count ls)
+not-one : (by : Translation) (kind : Kind) (w : Process) (m : Namespace) (ls : List Line) (count : ℕ) → 1 < length ls → (count ≡ 1 → ⊥) → false ≡ singleLine by kind w m (take count ls)
 unfolding singleLine
-not-one by s kind w n ls zero h e = refl
-not-one by s kind w n ls (suc zero) h e = absurd (omega arith)
-not-one by s kind w n [] (suc (suc k)) h e = refl
-not-one by s kind w n (l ∷ []) (suc (suc k)) h e = absurd (omega arith)
-not-one by s kind w n (l ∷ m ∷ ls) (suc (suc k)) h e = refl
+not-one by kind w m ls zero h e = refl
+not-one by kind w m ls (suc zero) h e = absurd (omega arith)
+not-one by kind w m [] (suc (suc k)) h e = refl
+not-one by kind w m (l ∷ []) (suc (suc k)) h e = absurd (omega arith)
+not-one by kind w m (l ∷ l′ ∷ ls) (suc (suc k)) h e = refl
 
-module _ (s : State) (kind : Kind) (w : Process) (n : ℕ) (ls : List Line) (count k : ℕ) (long : length ls ≡ k) where
-  pub single-other : 1 < k → (count ≡ 1 → ⊥) → false ≡ singleLine (byLiftedMaps s) s kind w n (take count ls)
-  single-other h e = not-one (byLiftedMaps s) s kind w n ls count (omega arith) e
+module _ (s : State) (kind : Kind) (w : Process) (m : Namespace) (ls : List Line) (count k : ℕ) (long : length ls ≡ k) where
+  pub single-other : 1 < k → (count ≡ 1 → ⊥) → false ≡ singleLine (byLiftedMaps s) kind w m (take count ls)
+  single-other h e = not-one (byLiftedMaps s) kind w m ls count (omega arith) e
 
   module _ (one : count ≡ 1) (h : 1 < k) where
-    only : singleLine (byLiftedMaps s) s kind w n (take count ls) ≡ singleLine (byLiftedMaps s) s kind w n (getD ls 0 noLine ∷ [])
+    only : singleLine (byLiftedMaps s) kind w m (take count ls) ≡ singleLine (byLiftedMaps s) kind w m (getD ls 0 noLine ∷ [])
     only = rw (one, one-line ls noLine (omega arith))
 
-    pub single-many : (getD ls 0 noLine .count ≡ 1 → ⊥) → false ≡ singleLine (byLiftedMaps s) s kind w n (take count ls)
+    pub single-many : (getD ls 0 noLine .count ≡ 1 → ⊥) → false ≡ singleLine (byLiftedMaps s) kind w m (take count ls)
     unfolding singleLine byLiftedMaps
     single-many e = sym (only ∙ rw (ne-eqb (getD ls 0 noLine .count) 1 e))
 
-    module _ (e : getD ls 0 noLine .count ≡ 1) (m : Namespace) (tgt : m ≡ namespaceAt s n) (ids : Ids) (own : ids ≡ idsIn kind w) (r : Translated) (f : r ≡ toKernel s kind (m .parent) (getD ls 0 noLine .parent)) (t : Bool) (q : t ≡ isId r (ids .effective)) where
-      pub single-foreign : t ≡ false → false ≡ singleLine (byLiftedMaps s) s kind w n (take count ls)
+    module _ (e : getD ls 0 noLine .count ≡ 1) (ids : Ids) (own : ids ≡ idsIn kind w) (r : Translated) (f : r ≡ toKernel s kind (m .parent) (getD ls 0 noLine .parent)) (t : Bool) (q : t ≡ isId r (ids .effective)) where
+      pub single-foreign : t ≡ false → false ≡ singleLine (byLiftedMaps s) kind w m (take count ls)
       unfolding singleLine byLiftedMaps
-      single-foreign y = sym (only ∙ rw (eq-eqb (getD ls 0 noLine .count) 1 e, ← tgt, ← f, ← own, ← q, y))
+      single-foreign y = sym (only ∙ rw (eq-eqb (getD ls 0 noLine .count) 1 e, ← f, ← own, ← q, y))
 
-      pub single-unowned : t ≡ true → (w .users .effective ≡ m .owner → ⊥) → false ≡ singleLine (byLiftedMaps s) s kind w n (take count ls)
+      pub single-unowned : t ≡ true → (w .users .effective ≡ m .owner → ⊥) → false ≡ singleLine (byLiftedMaps s) kind w m (take count ls)
       unfolding singleLine byLiftedMaps
-      single-unowned y z = sym (only ∙ rw (eq-eqb (getD ls 0 noLine .count) 1 e, ← tgt, ← f, ← own, ← q, y, ne-eqb (w .users .effective) (m .owner) z))
+      single-unowned y z = sym (only ∙ rw (eq-eqb (getD ls 0 noLine .count) 1 e, ← f, ← own, ← q, y, ne-eqb (w .users .effective) (m .owner) z))
 
-      pub single-owned : (b : Bool) → t ≡ true → w .users .effective ≡ m .owner → b ≡ mayByKind kind (m .deny) → b ≡ singleLine (byLiftedMaps s) s kind w n (take count ls)
+      pub single-owned : (b : Bool) → t ≡ true → w .users .effective ≡ m .owner → b ≡ mayByKind kind (m .deny) → b ≡ singleLine (byLiftedMaps s) kind w m (take count ls)
       unfolding singleLine byLiftedMaps
-      single-owned b y z p = p ∙ sym (only ∙ rw (eq-eqb (getD ls 0 noLine .count) 1 e, ← tgt, ← f, ← own, ← q, y, eq-eqb (w .users .effective) (m .owner) z))
+      single-owned b y z p = p ∙ sym (only ∙ rw (eq-eqb (getD ls 0 noLine .count) 1 e, ← f, ← own, ← q, y, eq-eqb (w .users .effective) (m .owner) z))
 
 -- ---- may_map
-module _ (by : Translation) (s : State) (kind : Kind) (w : Process) (n : ℕ) (ls : List Line) (m : Namespace) (tgt : m ≡ namespaceAt s n) (k : ℕ) (num : k ≡ setIdOf kind) (t : Bool) (q : t ≡ capableIn s w (m .parent) k) where
-  pub may-capable : t ≡ true → true ≡ mayMap by s kind w n ls
+module _ (by : Translation) (s : State) (kind : Kind) (w : Process) (m : Namespace) (ls : List Line) (k : ℕ) (num : k ≡ setIdOf kind) (t : Bool) (q : t ≡ capableIn s w (m .parent) k) where
+  pub may-capable : t ≡ true → true ≡ mayMap by s kind w m ls
   unfolding mayMap
-  may-capable y = sym (rw (← tgt, ← num, ← q, y))
+  may-capable y = sym (rw (← num, ← q, y))
 
-  pub may-single : (b : Bool) → t ≡ false → b ≡ singleLine by s kind w n ls → b ≡ mayMap by s kind w n ls
+  pub may-single : (b : Bool) → t ≡ false → b ≡ singleLine by kind w m ls → b ≡ mayMap by s kind w m ls
   unfolding mayMap
-  may-single b y e = e ∙ sym (rw (← tgt, ← num, ← q, y))
+  may-single b y e = e ∙ sym (rw (← num, ← q, y))
 
 -- ---- all_covered
 module _ (above ls : List Line) (n i : ℕ) (inv : allCovered above (take n ls) ≡ allCovered above (drop i (take n ls))) where
@@ -157,7 +158,7 @@ lines-some (some ls) k e =
     (ap some (sym f), ap length f ∙ h, ap padded (sym f))
 
 -- ---- write_lines
-module _ (by : Translation) (l text : List ℕ) (kind : Kind) (w : Process) (n : ℕ) (r : MapText) (f : r ≡ mapText (mapLines text)) where
+module _ (by : Translation) (l text : List ℕ) (kind : Kind) (w : Process) (n : ℕ) (m : Namespace) (tgt : m ≡ namespaceAt (tablesOf l) n) (r : MapText) (f : r ≡ mapText (mapLines text)) where
   pub lines-bad : r .parsed ≡ Bad → Promise (Refused EINVAL) l l (writeLinesTo by (tablesOf l) kind w n text)
   unfolding writeLinesTo
   lines-bad e =
@@ -174,18 +175,18 @@ module _ (by : Translation) (l text : List ℕ) (kind : Kind) (w : Process) (n :
         (let h = lines-some (mapLines text) k (rw f at v) in
         λ i. record { state = Written (sym (h .1) i); lines = h .2 i })
 
-    module _ (t : Bool) (q : t ≡ mayMap by (tablesOf l) kind w n (take k (r .lines))) where
+    module _ (t : Bool) (q : t ≡ mayMap by (tablesOf l) kind w m (take k (r .lines))) where
       pub lines-denied : t ≡ false → Promise (Refused EPERM) l l (writeLinesTo by (tablesOf l) kind w n text)
       unfolding writeLinesTo
-      lines-denied y = refuses EPERM l (writeLinesTo by (tablesOf l) kind w n text) (sym (rw (read-lines, ← q, y)))
+      lines-denied y = refuses EPERM l (writeLinesTo by (tablesOf l) kind w n text) (sym (rw (read-lines, ← tgt, ← q, y)))
 
-      module _ (y : t ≡ true) (m : Namespace) (tgt : m ≡ namespaceAt (tablesOf l) n) (ws : List ℕ) (above : linesIn ws ≡ linesOf (mapIn kind (namespaceAt (tablesOf l) (m .parent)))) (u : Bool) (g : u ≡ allCovered (linesIn ws) (take k (r .lines))) where
+      module _ (y : t ≡ true) (ws : List ℕ) (above : linesIn ws ≡ linesOf (mapIn kind (namespaceAt (tablesOf l) (m .parent)))) (u : Bool) (g : u ≡ allCovered (linesIn ws) (take k (r .lines))) where
         cover-is : u ≡ allCovered (linesOf (mapIn kind (namespaceAt (tablesOf l) (m .parent)))) (take k (r .lines))
         cover-is = rw above at g
 
         pub lines-uncovered : u ≡ false → Promise (Refused EPERM) l l (writeLinesTo by (tablesOf l) kind w n text)
         unfolding writeLinesTo
-        lines-uncovered z = refuses EPERM l (writeLinesTo by (tablesOf l) kind w n text) (sym (rw (read-lines, ← q, y, ← tgt, ← cover-is, z)))
+        lines-uncovered z = refuses EPERM l (writeLinesTo by (tablesOf l) kind w n text) (sym (rw (read-lines, ← tgt, ← q, y, ← cover-is, z)))
 
         pub lines-done : (new : Namespace) (l′ l″ lifted : List ℕ) (ls : List Line) (b : ℕ) → u ≡ true
             → ls ≡ liftedAt (tablesOf l) kind (m .parent) .lines → b ≡ liftedAt (tablesOf l) kind (m .parent) .base
@@ -196,7 +197,7 @@ module _ (by : Translation) (l text : List ℕ) (kind : Kind) (w : Process) (n :
         unfolding writeLinesTo mappedTables
         lines-done new l′ l″ lifted ls b z high low c e p p′ =
             answers Done l l″ (writeLinesTo by (tablesOf l) kind w n text) refl
-            (rw (read-lines, ← q, y, ← tgt, ← cover-is, z, p′, p, e, read-map, c, high, low))
+            (rw (read-lines, ← tgt, ← q, y, ← cover-is, z, p′, p, e, read-map, c, high, low))
 
 -- ---- write_to
 -- a promise of one outcome is one of an equal outcome
@@ -208,42 +209,42 @@ module _ (by : Translation) (l text : List ℕ) (kind : Kind) (w : Process) (n :
   unfolding writeMapTo
   to-initial e = refuses EPERM l (writeMapTo by (tablesOf l) kind w n text) (sym (rw (eq-eqb n 0 e)))
 
-  module _ (z : n ≡ 0 → ⊥) (t : Bool) (q : t ≡ isNear (tablesOf l) w n) where
+  module _ (z : n ≡ 0 → ⊥) (m : Namespace) (tgt : m ≡ namespaceAt (tablesOf l) n) (t : Bool) (q : t ≡ isNear w n m) where
     pub to-far : t ≡ false → Promise (Refused EPERM) l l (writeMapTo by (tablesOf l) kind w n text)
     unfolding writeMapTo
-    to-far y = refuses EPERM l (writeMapTo by (tablesOf l) kind w n text) (sym (rw (ne-eqb n 0 z, ← q, y)))
+    to-far y = refuses EPERM l (writeMapTo by (tablesOf l) kind w n text) (sym (rw (ne-eqb n 0 z, ← tgt, ← q, y)))
 
     module _ (y : t ≡ true) where
       pub to-empty : length text ≡ 0 → Promise (Refused EINVAL) l l (writeMapTo by (tablesOf l) kind w n text)
       unfolding writeMapTo
-      to-empty e = refuses EINVAL l (writeMapTo by (tablesOf l) kind w n text) (sym (rw (ne-eqb n 0 z, ← q, y, eq-eqb (length text) 0 e)))
+      to-empty e = refuses EINVAL l (writeMapTo by (tablesOf l) kind w n text) (sym (rw (ne-eqb n 0 z, ← tgt, ← q, y, eq-eqb (length text) 0 e)))
 
       module _ (e : length text ≡ 0 → ⊥) where
-        pub to-long : 4095 < length text → Promise (Refused EINVAL) l l (writeMapTo by (tablesOf l) kind w n text)
+        pub to-long : maxTextBytes < length text → Promise (Refused EINVAL) l l (writeMapTo by (tablesOf l) kind w n text)
         unfolding writeMapTo
-        to-long h = refuses EINVAL l (writeMapTo by (tablesOf l) kind w n text) (sym (rw (ne-eqb n 0 z, ← q, y, ne-eqb (length text) 0 e, lt-ltb 4095 (length text) h)))
+        to-long h = refuses EINVAL l (writeMapTo by (tablesOf l) kind w n text) (sym (rw (ne-eqb n 0 z, ← tgt, ← q, y, ne-eqb (length text) 0 e, lt-ltb maxTextBytes (length text) h)))
 
-        module _ (h : length text ≤ 4095) (m : Namespace) (tgt : m ≡ namespaceAt (tablesOf l) n) (map : IdMap) (own : map ≡ mapIn kind m) (u : Bool) (g : u ≡ isWritten (map .state)) where
+        module _ (h : length text ≤ maxTextBytes) (map : IdMap) (own : map ≡ mapIn kind m) (u : Bool) (g : u ≡ isWritten (map .state)) where
           pub to-written : u ≡ true → Promise (Refused EPERM) l l (writeMapTo by (tablesOf l) kind w n text)
           unfolding writeMapTo
-          to-written x = refuses EPERM l (writeMapTo by (tablesOf l) kind w n text) (sym (rw (ne-eqb n 0 z, ← q, y, ne-eqb (length text) 0 e, le-ltb 4095 (length text) h, ← tgt, ← own, ← g, x)))
+          to-written x = refuses EPERM l (writeMapTo by (tablesOf l) kind w n text) (sym (rw (ne-eqb n 0 z, ← tgt, ← q, y, ne-eqb (length text) 0 e, le-ltb maxTextBytes (length text) h, ← own, ← g, x)))
 
           module _ (x : u ≡ false) (k : ℕ) (num : k ≡ setIdOf kind) (b : Bool) (c : b ≡ capableIn (tablesOf l) w n k) where
             pub to-denied : b ≡ false → Promise (Refused EPERM) l l (writeMapTo by (tablesOf l) kind w n text)
             unfolding writeMapTo
-            to-denied d = refuses EPERM l (writeMapTo by (tablesOf l) kind w n text) (sym (rw (ne-eqb n 0 z, ← q, y, ne-eqb (length text) 0 e, le-ltb 4095 (length text) h, ← tgt, ← own, ← g, x, ← num, ← c, d)))
+            to-denied d = refuses EPERM l (writeMapTo by (tablesOf l) kind w n text) (sym (rw (ne-eqb n 0 z, ← tgt, ← q, y, ne-eqb (length text) 0 e, le-ltb maxTextBytes (length text) h, ← own, ← g, x, ← num, ← c, d)))
 
             pub to-lines : (r : Answer) (l′ : List ℕ) → b ≡ true → Promise r l l′ (writeLinesTo by (tablesOf l) kind w n text) → Promise r l l′ (writeMapTo by (tablesOf l) kind w n text)
             unfolding writeMapTo
-            to-lines r l′ d p = promised r l l′ (writeLinesTo by (tablesOf l) kind w n text) (writeMapTo by (tablesOf l) kind w n text) (sym (rw (ne-eqb n 0 z, ← q, y, ne-eqb (length text) 0 e, le-ltb 4095 (length text) h, ← tgt, ← own, ← g, x, ← num, ← c, d))) p
+            to-lines r l′ d p = promised r l l′ (writeLinesTo by (tablesOf l) kind w n text) (writeMapTo by (tablesOf l) kind w n text) (sym (rw (ne-eqb n 0 z, ← tgt, ← q, y, ne-eqb (length text) 0 e, le-ltb maxTextBytes (length text) h, ← own, ← g, x, ← num, ← c, d))) p
 
 -- ---- write_map
-module _ (by : Translation) (l text : List ℕ) (kind : Kind) (c name : ℕ) (r : Found) (f : r ≡ processNamed (tablesOf l) c) where
+module _ (by : Translation) (l text : List ℕ) (kind : Kind) (c name : ℕ) (r : Found) (f : r ≡ callerNamed (tablesOf l) c) where
   pub write-no-caller : r ≡ Nothing → Promise (Refused ESRCH) l l (writeMapOf by (tablesOf l) kind c name text)
   unfolding writeMapOf
   write-no-caller n = refuses ESRCH l (writeMapOf by (tablesOf l) kind c name text) (sym (rw (sym f ∙ n)))
 
-  module _ (i : ℕ) (v : r ≡ At i) (q : Found) (g : q ≡ processNamed (tablesOf l) name) where
+  module _ (i : ℕ) (v : r ≡ At i) (q : Found) (g : q ≡ processNamed (tablesOf l) i name) where
     pub write-no-target : q ≡ Nothing → Promise (Refused ESRCH) l l (writeMapOf by (tablesOf l) kind c name text)
     unfolding writeMapOf
     write-no-target n = refuses ESRCH l (writeMapOf by (tablesOf l) kind c name text) (sym (rw (sym f ∙ v, sym g ∙ n)))
@@ -266,10 +267,12 @@ pub ruleset tests = (
   may-single,
   with-users,
   with-groups,
+  not-taken,
+  not-left,
   needs,
 )
 
-pub ruleset covering = (covered-past, covered-end, covered-step, covered-no, needs)
+pub ruleset covering = (covered-past, covered-end, covered-step, covered-no, not-taken, not-left, needs)
 
 pub ruleset writing = (
   lines-bad,
@@ -286,5 +289,7 @@ pub ruleset writing = (
   write-no-caller,
   write-no-target,
   write-found,
+  not-taken,
+  not-left,
   needs,
 )

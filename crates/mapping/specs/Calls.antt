@@ -6,13 +6,14 @@ use mathlib.Core.Option.{Option, none, some}
 use lib.Dec.{eqb, ltb}
 use lib.ListN.{length}
 use Rattle.prelude.specs.Parts.{fitsAt, putAt}
+use Rattle.capability.specs.Sets.{capSysAdmin}
 use Rattle.idmap.specs.declared.Line.{Line}
 use Rattle.idmap.specs.declared.Translated.{Translated}
 use Rattle.idmap.specs.declared.Translated.the-variants.{Id, Unmapped}
 use Rattle.idmap.specs.Good.{maxLines, noId}
 use Rattle.idmap.specs.Lookup.{orNoId}
 use Rattle.idmap.specs.Cover.{coveredOf}
-use Rattle.idmap.specs.Text.{mapLines, padded}
+use Rattle.idmap.specs.Text.{maxTextBytes, mapLines, padded}
 use Rattle.idmap.specs.Show.{linesText}
 use Rattle.records.specs.declared.Kind.{Kind}
 use Rattle.records.specs.declared.Kind.the-variants.{User, Group}
@@ -23,7 +24,7 @@ use Rattle.records.specs.declared.Process.{Process}
 use Rattle.records.specs.declared.Namespace.{Namespace}
 use Rattle.records.specs.Records.{idsIn, mapIn, setIdOf, isWritten, linesOf}
 use Rattle.tables.specs.Tables.{State, processAt, namespaceAt, putNamespace}
-use Rattle.tables.specs.Find.{processNamed}
+use Rattle.tables.specs.Find.{callerNamed, processNamed}
 use Rattle.tables.specs.Reply.{Reply, refused, done, bytes, Outcome, refuse, onFound, when, unless}
 use Rattle.mapping.specs.declared.setgroups.Setting.{Setting}
 use Rattle.mapping.specs.declared.setgroups.Setting.the-variants.{Deny, Allow, Neither}
@@ -31,9 +32,9 @@ use Rattle.hierarchy.specs.Walks.{Translation, capableIn}
 use Rattle.hierarchy.specs.Lifted.{beside}
 
 -- ---- map write
--- the writer is in namespace n or in its parent
-unfoldable pub isNear : State → Process → ℕ → Bool
-isNear s w n = eqb (w .namespace) n || eqb (w .namespace) (namespaceAt s n .parent)
+-- the writer is in namespace n, the target, or in its parent
+unfoldable pub isNear : Process → ℕ → Namespace → Bool
+isNear w n target = eqb (w .namespace) n || eqb (w .namespace) (target .parent)
 
 -- the lines are one line of count 1 whose parent start is, as a kernel ID, the writer's own effective ID of the kind, the writer's effective
 -- user ID is the owner, and for a group map setgroups is denied
@@ -45,17 +46,17 @@ abbrev pub mayByKind : Kind → Bool → Bool
 mayByKind User deny = true
 mayByKind Group deny = deny
 
-unfoldable pub singleLine : Translation → State → Kind → Process → ℕ → List Line → Bool
-singleLine by s kind w n [] = false
-singleLine by s kind w n (l ∷ []) =
+unfoldable pub singleLine : Translation → Kind → Process → Namespace → List Line → Bool
+singleLine by kind w target [] = false
+singleLine by kind w target (l ∷ []) =
     eqb (l .count) 1
-    && (isId (by .out kind (namespaceAt s n .parent) (l .parent)) (idsIn kind w .effective)
-    && (eqb (w .users .effective) (namespaceAt s n .owner) && mayByKind kind (namespaceAt s n .deny)))
-singleLine by s kind w n (l ∷ m ∷ ls) = false
+    && (isId (by .out kind (target .parent) (l .parent)) (idsIn kind w .effective)
+    && (eqb (w .users .effective) (target .owner) && mayByKind kind (target .deny)))
+singleLine by kind w target (l ∷ m ∷ ls) = false
 
 -- the writer has the capability in the parent, or the single line is its own
-unfoldable pub mayMap : Translation → State → Kind → Process → ℕ → List Line → Bool
-mayMap by s kind w n ls = capableIn s w (namespaceAt s n .parent) (setIdOf kind) || singleLine by s kind w n ls
+unfoldable pub mayMap : Translation → State → Kind → Process → Namespace → List Line → Bool
+mayMap by s kind w target ls = capableIn s w (target .parent) (setIdOf kind) || singleLine by kind w target ls
 
 -- each parent-side ID has a line in the parent's map
 unfoldable pub allCovered : List Line → List Line → Bool
@@ -82,7 +83,7 @@ mappedTables s kind n ls =
 unfoldable pub writeLinesTo : Translation → State → Kind → Process → ℕ → List ℕ → Outcome
 writeLinesTo by s kind w n text =
     thenLines (mapLines text) (refuse s 22) (λ ls.
-    unless (mayMap by s kind w n ls) (refuse s 1)
+    unless (mayMap by s kind w (namespaceAt s n) ls) (refuse s 1)
     (unless (allCovered (linesOf (mapIn kind (namespaceAt s (namespaceAt s n .parent)))) ls) (refuse s 1)
     (record { reply = done; tables = mappedTables s kind n ls })))
 
@@ -90,16 +91,16 @@ writeLinesTo by s kind w n text =
 unfoldable pub writeMapTo : Translation → State → Kind → Process → ℕ → List ℕ → Outcome
 writeMapTo by s kind w n text =
     when (eqb n 0) (refuse s 1)
-    (unless (isNear s w n) (refuse s 1)
+    (unless (isNear w n (namespaceAt s n)) (refuse s 1)
     (when (eqb (length text) 0) (refuse s 22)
-    (when (ltb 4095 (length text)) (refuse s 22)
+    (when (ltb maxTextBytes (length text)) (refuse s 22)
     (when (isWritten (mapIn kind (namespaceAt s n) .state)) (refuse s 1)
     (unless (capableIn s w n (setIdOf kind)) (refuse s 1) (writeLinesTo by s kind w n text))))))
 
 unfoldable pub writeMapOf : Translation → State → Kind → ℕ → ℕ → List ℕ → Outcome
 writeMapOf by s kind c name text =
-    onFound (processNamed s c) (refuse s 3) (λ w.
-    onFound (processNamed s name) (refuse s 3) (λ p. writeMapTo by s kind (processAt s w) (processAt s p .namespace) text))
+    onFound (callerNamed s c) (refuse s 3) (λ w.
+    onFound (processNamed s w name) (refuse s 3) (λ p. writeMapTo by s kind (processAt s w) (processAt s p .namespace) text))
 
 -- ---- setgroups file write
 -- the bytes of "allow" and "deny"
@@ -139,15 +140,15 @@ thenSetting (some false) other deny allow = allow
 
 unfoldable pub writeSetgroupsTo : State → Process → ℕ → List ℕ → Outcome
 writeSetgroupsTo s w n text =
-    unless (capableIn s w n 21) (refuse s 1)
+    unless (capableIn s w n capSysAdmin) (refuse s 1)
     (thenSetting (settingIn text) (refuse s 22)
     (when (isWritten (namespaceAt s n .groups .state)) (refuse s 1) (record { reply = done; tables = putNamespace s n (withDeny (namespaceAt s n) true) }))
     (when (namespaceAt s n .deny) (refuse s 1) (record { reply = done; tables = putNamespace s n (withDeny (namespaceAt s n) false) })))
 
 unfoldable pub writeSetgroupsOf : State → ℕ → ℕ → List ℕ → Outcome
 writeSetgroupsOf s c name text =
-    onFound (processNamed s c) (refuse s 3) (λ w.
-    onFound (processNamed s name) (refuse s 3) (λ p. writeSetgroupsTo s (processAt s w) (processAt s p .namespace) text))
+    onFound (callerNamed s c) (refuse s 3) (λ w.
+    onFound (processNamed s w name) (refuse s 3) (λ p. writeSetgroupsTo s (processAt s w) (processAt s p .namespace) text))
 
 -- ---- reads
 -- what a read answers, and the buffer after it
@@ -186,8 +187,8 @@ mapTextOf by s kind n v = linesText (map (shownLine by s kind n v) (linesOf (map
 
 unfoldable pub readMapOf : Translation → State → Kind → ℕ → ℕ → List ℕ → ReadOutcome
 readMapOf by s kind c name buffer =
-    onFound (processNamed s c) (record { reply = refused 3; buffer = buffer }) (λ r.
-    onFound (processNamed s name) (record { reply = refused 3; buffer = buffer }) (λ p.
+    onFound (callerNamed s c) (record { reply = refused 3; buffer = buffer }) (λ r.
+    onFound (processNamed s r name) (record { reply = refused 3; buffer = buffer }) (λ p.
     readText (mapTextOf by s kind (processAt s p .namespace) (viewOf s (processAt s r) (processAt s p .namespace))) buffer))
 
 unfoldable pub settingText : Bool → List ℕ
@@ -195,6 +196,6 @@ settingText deny = cond deny denyText allowText ++ (10 ∷ [])
 
 unfoldable pub readSetgroupsOf : State → ℕ → ℕ → List ℕ → ReadOutcome
 readSetgroupsOf s c name buffer =
-    onFound (processNamed s c) (record { reply = refused 3; buffer = buffer }) (λ r.
-    onFound (processNamed s name) (record { reply = refused 3; buffer = buffer }) (λ p.
+    onFound (callerNamed s c) (record { reply = refused 3; buffer = buffer }) (λ r.
+    onFound (processNamed s r name) (record { reply = refused 3; buffer = buffer }) (λ p.
     readText (settingText (namespaceAt s (processAt s p .namespace) .deny)) buffer))

@@ -5,7 +5,7 @@ ghost use Prim.Native.Nat.{_*_, _≤_};
 ghost use lib.ListN.{length, take};
 ghost use Rattle.prelude.specs.Parts.{putAt};
 ghost use Rattle.idmap.specs.Good.{maxLines};
-ghost use Rattle.idmap.specs.Show.{linesText};
+ghost use Rattle.idmap.specs.Show.{lineBytes, linesText};
 ghost use Rattle.tables.specs.Tables.{tablesOf};
 ghost use Rattle.tables.specs.Reply.{replyOf};
 ghost use Rattle.hierarchy.specs.Lifted.{quick};
@@ -14,8 +14,10 @@ use hierarchy::translate::from_kernel;
 use hierarchy::translate::to_kernel;
 use idmap::Line;
 use idmap::MAX_LINES;
+use idmap::NO_ID;
 use idmap::Translated;
 use idmap::lookup::id_or;
+use idmap::show::LINE_BYTES;
 use idmap::show::put_line;
 use idmap::show::put_text;
 use records::IdMap;
@@ -27,7 +29,8 @@ use tables::Tables;
 use tables::answer::Answer;
 use tables::answer::Errno;
 use tables::find::Found;
-use tables::find::find_process;
+use tables::find::find_caller;
+use tables::find::named_process;
 use tables::namespaces::namespace_at;
 use tables::processes::process_at;
 
@@ -52,12 +55,12 @@ fn shown(t: &Tables, kind: Kind, n: u64, v: u64, l: Line) -> Line
     match start {
         Translated::Id(x) => Line {
             inside: l.inside,
-            parent: id_or(from_kernel(t, kind, v, x), 4294967295),
+            parent: id_or(from_kernel(t, kind, v, x), NO_ID),
             count: l.count,
         },
         Translated::Unmapped => Line {
             inside: l.inside,
-            parent: 4294967295,
+            parent: NO_ID,
             count: l.count,
         },
     }
@@ -84,13 +87,13 @@ fn put_lines(
     count: usize,
     buffer: &mut [u8],
 )
-    requires { ⌜ (count ≤ maxLines) × (count * 33 ≤ length (now buffer)) ⌝ }
+    requires { ⌜ (count ≤ maxLines) × (count * lineBytes ≤ length (now buffer)) ⌝ }
     ensures { λ r. ⌜ now (buffer .exit) ≡ putAt (now (buffer .entry)) 0 (linesText (map (quick shownLine (tablesOf (now (t .entry))) kind n v) (take count lines))) ⌝ }
 {
     let mut i: usize = 0;
     while i < count {
         let l = lines[i];
-        put_line(buffer, i * 33, shown(t, kind, n, v, l));
+        put_line(buffer, i * LINE_BYTES, shown(t, kind, n, v, l));
         i += 1;
     }
 }
@@ -101,10 +104,11 @@ fn put_lines(
 pub fn read_map(t: &Tables, kind: Kind, caller: u64, name: u64, buffer: &mut [u8]) -> Answer
     ensures { λ r. ⌜ _≡_ {A = ReadOutcome} (record { reply = replyOf r; buffer = now (buffer .exit) }) (quick readMapOf (tablesOf (now (t .entry))) kind caller name (now (buffer .entry))) ⌝ }
 {
-    let Found::At(reader) = find_process(t, caller) else {
+    // The caller must exist, then the process named, else 3.
+    let Found::At(reader) = find_caller(t, caller) else {
         return Answer::Refused(Errno::ESRCH);
     };
-    let Found::At(place) = find_process(t, name) else {
+    let Found::At(place) = named_process(t, reader, name) else {
         return Answer::Refused(Errno::ESRCH);
     };
     let r = process_at(t, reader);
@@ -113,12 +117,13 @@ pub fn read_map(t: &Tables, kind: Kind, caller: u64, name: u64, buffer: &mut [u8
     let map = map_in(kind, target);
     let count = line_count(map);
     let lines = map.lines;
-    if buffer.len() < count * 33 {
+    // 34 if the lent buffer is shorter than the text.
+    if buffer.len() < count * LINE_BYTES {
         return Answer::Refused(Errno::ERANGE);
     }
     let v = view(t, r, p.namespace);
     put_lines(t, kind, p.namespace, v, lines, count, buffer);
-    Answer::Length(count * 33)
+    Answer::Length(count * LINE_BYTES)
 }
 
 // Stores a text at the front of a buffer. Answers its length, or 34 where the buffer is shorter.
@@ -137,10 +142,11 @@ fn put_word(buffer: &mut [u8], text: &[u8]) -> Answer
 pub fn read_setgroups(t: &Tables, caller: u64, name: u64, buffer: &mut [u8]) -> Answer
     ensures { λ r. ⌜ _≡_ {A = ReadOutcome} (record { reply = replyOf r; buffer = now (buffer .exit) }) (readSetgroupsOf (tablesOf (now (t .entry))) caller name (now (buffer .entry))) ⌝ }
 {
-    let Found::At(reader) = find_process(t, caller) else {
+    // The caller must exist, then the process named, else 3.
+    let Found::At(reader) = find_caller(t, caller) else {
         return Answer::Refused(Errno::ESRCH);
     };
-    let Found::At(place) = find_process(t, name) else {
+    let Found::At(place) = named_process(t, reader, name) else {
         return Answer::Refused(Errno::ESRCH);
     };
     let p = process_at(t, place);

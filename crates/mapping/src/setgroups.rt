@@ -4,6 +4,7 @@ ghost use mathlib.Core.Bool.{true, false};
 ghost use Rattle.tables.specs.Tables.{tablesOf};
 ghost use Rattle.tables.specs.Reply.{Promise};
 ghost use Rattle.mapping.specs.Calls.{sameBytes, settingOf, settingIn, withDeny, writeSetgroupsTo, writeSetgroupsOf};
+use capability::CAP_SYS_ADMIN;
 use hierarchy::capable::capable;
 use records::Namespace;
 use records::Process;
@@ -12,7 +13,8 @@ use tables::Tables;
 use tables::answer::Answer;
 use tables::answer::Errno;
 use tables::find::Found;
-use tables::find::find_process;
+use tables::find::find_caller;
+use tables::find::named_process;
 use tables::namespaces::namespace_at;
 use tables::namespaces::namespace_put;
 use tables::processes::process_at;
@@ -25,36 +27,36 @@ enum Setting {
 }
 
 // Whether two texts are the same bytes.
-fn same(a: &[u8], b: &[u8]) -> bool
+fn same_bytes(a: &[u8], b: &[u8]) -> bool
     ensures { λ r. ⌜ r ≡ sameBytes (now (a .entry)) (now (b .entry)) ⌝ }
 {
-    if a.len() == b.len() {} else {
+    if a.len() != b.len() {
         return false;
     }
     let mut i: usize = 0;
     while i < a.len() {
-        if a[i] == b[i] {
-            i += 1;
-        } else {
+        if a[i] != b[i] {
             return false;
         }
+        i += 1;
     }
     true
 }
 
+// What a text sets: "allow" or "deny", with or without one newline after, or neither.
 fn asked_setting(text: &[u8]) -> Setting
     ensures { λ r. ⌜ r ≡ settingOf (settingIn (now (text .entry))) ⌝ }
 {
-    if same(text, b"deny") {
+    if same_bytes(text, b"deny") {
         return Setting::Deny;
     }
-    if same(text, b"deny\n") {
+    if same_bytes(text, b"deny\n") {
         return Setting::Deny;
     }
-    if same(text, b"allow") {
+    if same_bytes(text, b"allow") {
         return Setting::Allow;
     }
-    if same(text, b"allow\n") {
+    if same_bytes(text, b"allow\n") {
         return Setting::Allow;
     }
     Setting::Neither
@@ -80,16 +82,19 @@ fn with_deny(n: Namespace, deny: bool) -> Namespace
 fn write_to(t: &mut Tables, w: Process, n: u64, text: &[u8]) -> Answer
     ensures { λ r. ⌜ Promise r (now (t .entry)) (now (t .exit)) (writeSetgroupsTo (tablesOf (now (t .entry))) w n (now (text .entry))) ⌝ }
 {
-    if capable(t, w, n, 21) {} else {
+    // 1 without SYS_ADMIN in the target.
+    if !capable(t, w, n, CAP_SYS_ADMIN) {
         return Answer::Refused(Errno::EPERM);
     }
     let target = namespace_at(t, n as usize);
     let asked = asked_setting(text);
     match asked {
+        // 22 unless the text is exactly one of the words.
         Setting::Neither => Answer::Refused(Errno::EINVAL),
         Setting::Deny => {
             let map = target.groups;
             let state = map.state;
+            // "deny" gets 1 if the group map is written.
             if is_written(state) {
                 return Answer::Refused(Errno::EPERM);
             }
@@ -97,6 +102,7 @@ fn write_to(t: &mut Tables, w: Process, n: u64, text: &[u8]) -> Answer
             Answer::Done
         }
         Setting::Allow => {
+            // "allow" gets 1 if the setting is "deny".
             if target.deny {
                 return Answer::Refused(Errno::EPERM);
             }
@@ -112,10 +118,11 @@ fn write_to(t: &mut Tables, w: Process, n: u64, text: &[u8]) -> Answer
 pub fn write_setgroups(t: &mut Tables, caller: u64, name: u64, text: &[u8]) -> Answer
     ensures { λ r. ⌜ Promise r (now (t .entry)) (now (t .exit)) (writeSetgroupsOf (tablesOf (now (t .entry))) caller name (now (text .entry))) ⌝ }
 {
-    let Found::At(writer) = find_process(t, caller) else {
+    // The caller must exist, then the process named, else 3.
+    let Found::At(writer) = find_caller(t, caller) else {
         return Answer::Refused(Errno::ESRCH);
     };
-    let Found::At(place) = find_process(t, name) else {
+    let Found::At(place) = named_process(t, writer, name) else {
         return Answer::Refused(Errno::ESRCH);
     };
     let w = process_at(t, writer);

@@ -2,18 +2,20 @@
 ghost use mathlib.Core.Path.{_≡_};
 ghost use lib.ListN.{take};
 ghost use Rattle.idmap.specs.Line.{linesIn};
-ghost use Rattle.tables.specs.Tables.{tablesOf};
+ghost use Rattle.tables.specs.Tables.{tablesOf, namespaceAt};
 ghost use Rattle.tables.specs.Reply.{Promise};
-ghost use Rattle.hierarchy.specs.Lifted.{quick};
+ghost use Rattle.hierarchy.specs.Lifted.{byLiftedMaps, quick};
 ghost use Rattle.mapping.specs.Calls.{isNear, isId, mayByKind, singleLine, mayMap, allCovered, withMap, writeLinesTo, writeMapTo, writeMapOf};
 use hierarchy::capable::capable;
 use hierarchy::translate::to_kernel;
 use idmap::Line;
 use idmap::MAX_LINES;
+use idmap::MAX_TEXT_BYTES;
 use idmap::Translated;
 use idmap::cover::covered;
 use idmap::text::Parsed;
 use idmap::text::parse_map;
+use lifted_map::LIFTED_WIDTH;
 use lifted_map::LiftedMap;
 use lifted_map::lift::lift;
 use records::IdMap;
@@ -29,7 +31,8 @@ use tables::Tables;
 use tables::answer::Answer;
 use tables::answer::Errno;
 use tables::find::Found;
-use tables::find::find_process;
+use tables::find::find_caller;
+use tables::find::named_process;
 use tables::lifted_maps::lifted_base;
 use tables::lifted_maps::lifted_lines;
 use tables::lifted_maps::lifted_map_put;
@@ -38,14 +41,13 @@ use tables::namespaces::namespace_at;
 use tables::namespaces::namespace_put;
 use tables::processes::process_at;
 
-// Whether a process is in a namespace or in its parent.
-fn near(t: &Tables, w: Process, n: u64) -> bool
-    ensures { λ r. ⌜ r ≡ isNear (tablesOf (now (t .entry))) w n ⌝ }
+// Whether the writer is in namespace `n` or in its parent.
+fn near(w: Process, n: u64, target: Namespace) -> bool
+    ensures { λ r. ⌜ r ≡ isNear w n target ⌝ }
 {
     if w.namespace == n {
         return true;
     }
-    let target = namespace_at(t, n as usize);
     w.namespace == target.parent
 }
 
@@ -73,31 +75,32 @@ fn single_line(
     t: &Tables,
     kind: Kind,
     w: Process,
-    n: u64,
+    target: Namespace,
     lines: [Line; MAX_LINES],
     count: usize,
 ) -> bool
-    ensures { λ r. ⌜ r ≡ quick singleLine (tablesOf (now (t .entry))) kind w n (take count lines) ⌝ }
+    ensures { λ r. ⌜ r ≡ singleLine (byLiftedMaps (tablesOf (now (t .entry)))) kind w target (take count lines) ⌝ }
 {
-    if count == 1 {} else {
+    // The text is one line of count 1 ..
+    if count != 1 {
         return false;
     }
     let l = lines[0];
-    if l.count == 1 {} else {
+    if l.count != 1 {
         return false;
     }
-    let target = namespace_at(t, n as usize);
+    // .. whose parent start is, station-wide, the writer's own effective user (group) ID, ..
     let ids = ids_in(kind, w);
-    let users = w.users;
-    if is_id(to_kernel(t, kind, target.parent, l.parent), ids.effective) {
-        if users.effective == target.owner {
-            may_by_kind(kind, target.deny)
-        } else {
-            false
-        }
-    } else {
-        false
+    if !is_id(to_kernel(t, kind, target.parent, l.parent), ids.effective) {
+        return false;
     }
+    // .. the writer's effective user ID is the owner, ..
+    let users = w.users;
+    if users.effective != target.owner {
+        return false;
+    }
+    // .. and for a group map setgroups is "deny".
+    may_by_kind(kind, target.deny)
 }
 
 // Whether the writer has the capability in the parent, or the single line is its own.
@@ -105,18 +108,16 @@ fn may_map(
     t: &Tables,
     kind: Kind,
     w: Process,
-    n: u64,
+    target: Namespace,
     lines: [Line; MAX_LINES],
     count: usize,
 ) -> bool
-    ensures { λ r. ⌜ r ≡ quick mayMap (tablesOf (now (t .entry))) kind w n (take count lines) ⌝ }
+    ensures { λ r. ⌜ r ≡ quick mayMap (tablesOf (now (t .entry))) kind w target (take count lines) ⌝ }
 {
-    let target = namespace_at(t, n as usize);
     if capable(t, w, target.parent, set_id(kind)) {
-        true
-    } else {
-        single_line(t, kind, w, n, lines, count)
+        return true;
     }
+    single_line(t, kind, w, target, lines, count)
 }
 
 // Whether each parent-side ID of the lines has a line in the map above.
@@ -129,11 +130,10 @@ fn all_covered(above: &[u64], lines: [Line; MAX_LINES], count: usize) -> bool
             return true;
         }
         let l = lines[i];
-        if covered(above, l.parent, l.count) {
-            i += 1;
-        } else {
+        if !covered(above, l.parent, l.count) {
             return false;
         }
+        i += 1;
     }
     true
 }
@@ -165,64 +165,78 @@ fn with_map(kind: Kind, n: Namespace, map: IdMap) -> Namespace
     }
 }
 
-// The text read, the writer's right to those lines and their cover tested, and the map stored.
-fn write_lines(t: &mut Tables, kind: Kind, w: Process, n: u64, text: &[u8]) -> Answer
+// The write to namespace `n`, whose record is `target`, where the text is to be read: its lines, the writer's right to them and
+// their cover tested, and the map stored.
+fn write_lines(
+    t: &mut Tables,
+    kind: Kind,
+    w: Process,
+    n: u64,
+    target: Namespace,
+    text: &[u8],
+) -> Answer
+    requires { ⌜ target ≡ namespaceAt (tablesOf (now t)) n ⌝ }
     ensures { λ r. ⌜ Promise r (now (t .entry)) (now (t .exit)) (quick writeLinesTo (tablesOf (now (t .entry))) kind w n (now (text .entry))) ⌝ }
 {
     let read = parse_map(text);
     let parsed = read.parsed;
     let lines = read.lines;
+    // 22 by the text rules.
     let Parsed::Lines(count) = parsed else {
         return Answer::Refused(Errno::EINVAL);
     };
-    if may_map(t, kind, w, n, lines, count) {} else {
+    // 1 unless the writer has that capability in the parent, or the text is a single line of its own.
+    if !may_map(t, kind, w, target, lines, count) {
         return Answer::Refused(Errno::EPERM);
     }
-    let target = namespace_at(t, n as usize);
-    if all_covered(map_lines(t, target.parent as usize, kind), lines, count) {
-        let map = IdMap {
-            state: MapState::Written(count),
-            lines: lines,
-        };
-        let above = lifted_lines(t, target.parent as usize, kind);
-        let base = lifted_base(t, target.parent as usize, kind);
-        let mut lifted: LiftedMap = [0; 101];
-        lift(&mut lifted, above, base, target.parent, lines, count);
-        namespace_put(t, n as usize, with_map(kind, target, map));
-        lifted_map_put(t, kind, n as usize, &lifted);
-        Answer::Done
-    } else {
-        Answer::Refused(Errno::EPERM)
+    // 1 if any parent-side ID has no line in the parent's map.
+    if !all_covered(map_lines(t, target.parent as usize, kind), lines, count) {
+        return Answer::Refused(Errno::EPERM);
     }
+    let map = IdMap {
+        state: MapState::Written(count),
+        lines: lines,
+    };
+    let above = lifted_lines(t, target.parent as usize, kind);
+    let base = lifted_base(t, target.parent as usize, kind);
+    let mut lifted: LiftedMap = [0; LIFTED_WIDTH];
+    lift(&mut lifted, above, base, target.parent, lines, count);
+    namespace_put(t, n as usize, with_map(kind, target, map));
+    lifted_map_put(t, kind, n as usize, &lifted);
+    Answer::Done
 }
 
 // The write to namespace `n` by process `w`, in the order in which it refuses.
 fn write_to(t: &mut Tables, kind: Kind, w: Process, n: u64, text: &[u8]) -> Answer
     ensures { λ r. ⌜ Promise r (now (t .entry)) (now (t .exit)) (quick writeMapTo (tablesOf (now (t .entry))) kind w n (now (text .entry))) ⌝ }
 {
+    // 1 if the target is namespace 0, ..
     if n == 0 {
         return Answer::Refused(Errno::EPERM);
     }
-    if near(t, w, n) {} else {
+    let target = namespace_at(t, n as usize);
+    // .. or the writer is neither in the target nor in its parent.
+    if !near(w, n, target) {
         return Answer::Refused(Errno::EPERM);
     }
+    // 22 if the text has 0 or more than 4,095 bytes.
     if text.len() == 0 {
         return Answer::Refused(Errno::EINVAL);
     }
-    if 4095 < text.len() {
+    if MAX_TEXT_BYTES < text.len() {
         return Answer::Refused(Errno::EINVAL);
     }
-    let target = namespace_at(t, n as usize);
+    // 1 if already written.
     let map = map_in(kind, target);
     let state = map.state;
     if is_written(state) {
         return Answer::Refused(Errno::EPERM);
     }
-    if capable(t, w, n, set_id(kind)) {
-        write_lines(t, kind, w, n, text)
-    } else {
-        Answer::Refused(Errno::EPERM)
+    // 1 without SETUID (user) or SETGID (group) in the target.
+    if !capable(t, w, n, set_id(kind)) {
+        return Answer::Refused(Errno::EPERM);
     }
+    write_lines(t, kind, w, n, target, text)
 }
 
 // Writes the map of a kind of the namespace that process `name` is in. Refuses: 3 no caller or no such process; 1 the target is the initial
@@ -233,10 +247,11 @@ fn write_to(t: &mut Tables, kind: Kind, w: Process, n: u64, text: &[u8]) -> Answ
 pub fn write_map(t: &mut Tables, kind: Kind, caller: u64, name: u64, text: &[u8]) -> Answer
     ensures { λ r. ⌜ Promise r (now (t .entry)) (now (t .exit)) (quick writeMapOf (tablesOf (now (t .entry))) kind caller name (now (text .entry))) ⌝ }
 {
-    let Found::At(writer) = find_process(t, caller) else {
+    // The caller must exist, then the process named, else 3.
+    let Found::At(writer) = find_caller(t, caller) else {
         return Answer::Refused(Errno::ESRCH);
     };
-    let Found::At(place) = find_process(t, name) else {
+    let Found::At(place) = named_process(t, writer, name) else {
         return Answer::Refused(Errno::ESRCH);
     };
     let w = process_at(t, writer);

@@ -4,6 +4,7 @@ use mathlib.Core.List.{map}
 use Prim.Native.Nat.{_≤_, _-_}
 use lib.ListN.{length, take}
 use Rattle.prelude.specs.Parts.{putAt}
+use Rattle.idmap.specs.Good.{maxLines}
 use Rattle.idmap.specs.Show.{linesText}
 use Rattle.tables.specs.Tables.{tablesOf}
 use Rattle.hierarchy.specs.Lifted.{byLiftedMaps}
@@ -14,7 +15,7 @@ use Rattle.mapping.proofs.read.put_lines.Tie as tie
 
 abbrev Inv-loop : tie.InvT-loop
 Inv-loop t kind n v count buffer₀ lines i₀ buffer i =
-    (i ≤ count) × (length lines ≡ 5) × (length buffer ≡ length buffer₀)
+    (i ≤ count) × (length lines ≡ maxLines) × (length buffer ≡ length buffer₀)
     × (buffer ≡ putAt buffer₀ 0 (linesText (map (shownLine (byLiftedMaps (tablesOf t)) (tablesOf t) kind n v) (take i lines))))
 
 abbrev μ-loop : tie.MeasureT-loop

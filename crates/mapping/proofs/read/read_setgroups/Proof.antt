@@ -6,11 +6,11 @@ use Rattle.mapping.proofs.read.read_setgroups.Tie as tie
 pub read-setgroups-spec : {M : Type 1} → statement M
 read-setgroups-spec =
     tie.close (tie.spec
-    (λ c κs. search reading)  -- find-process-requires
+    (λ c κs. search reading)  -- find-caller-requires
     (λ c. search reading)  -- enum-known-reader
     (λ c. search reading)  -- enum-told
     (λ c. search reading)  -- returns
-    (λ c κs. search reading)  -- find-process-requires-2
+    (λ c κs. search reading)  -- named-process-requires
     (λ c. search reading)  -- enum-known-place
     (λ c. search reading)  -- enum-told-2
     (λ c. search reading)  -- returns-2

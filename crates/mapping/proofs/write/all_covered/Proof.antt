@@ -23,8 +23,8 @@ all-covered-spec =
     (λ c. search covering)  -- mul-l
     (λ c. search covering)  -- array-copy-out-l
     (λ c κs. search covering)  -- covered-requires
+    (λ c. search covering)  -- returns-2
     (λ c. search covering)  -- add-i
     (λ c. search covering)  -- loop-less
     (λ c. search covering)  -- loop-again
-    (λ c. search covering)  -- returns-2
     (λ c. search covering))  -- returns-3

@@ -7,5 +7,4 @@ pub near-spec : {M : Type 1} → statement M
 near-spec =
     tie.close (tie.spec
     (λ c. search tests)  -- returns
-    (λ c κs. search tests)  -- namespace-at-requires
     (λ c. search tests))  -- returns-2

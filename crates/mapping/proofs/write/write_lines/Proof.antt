@@ -1,19 +1,24 @@
 -- `mapping::write::write_lines` meets its contract. Assumes nothing.
+use Rattle.prelude.proofs.Tests.{not-left}
 use Rattle.mapping.proofs.Writes.{lines-done, writing}
 use Rattle.mapping.proofs.write.write_lines.Statement.{statement}
 use Rattle.mapping.proofs.write.write_lines.Tie as tie
 
-returns-3 : tie.Need-returns-3
-returns-3 c =
-    let stored = c .before .before .before in
-    let lifted = stored .before .before .before in
-    let tested = lifted .before .before .before .before .before in
-    let target = tested .before .before .before .before in
-    let allowed = target .before .before .before in
-    let read = allowed .before .before .before in
-    lines-done _ _ _ _ _ _ _ (read .before .before .before .parse-map .ensures) _ (read .parsed .given .1) _ (allowed .may-map .ensures) (target .before .before .if1 .taken)
-    _ (target .namespace-at .ensures) _ (tested .before .before .map-lines .ensures) _ (tested .before .all-covered .ensures) _ _ _ _ _ _ (tested .if2 .taken)
-    (lifted .before .before .before .lifted-lines .ensures) (lifted .before .before .lifted-base .ensures) (lifted .lift .ensures) (stored .before .with-map .ensures) (stored .namespace-put .ensures) (c .lifted-map-put .ensures)
+returns-4 : tie.Need-returns-4
+returns-4 c =
+    let at-map = c .before .before .before in
+    let at-lifted = at-map .before .before .before in
+    let at-base = at-lifted .before .before in
+    let at-covered = at-base .before .before .before in
+    let at-above = at-covered .before .before in
+    let at-allowed = at-above .before .before in
+    let at-lines = at-allowed .before .before .before .before in
+    let at-text = at-lines .before .before .before in
+    let start = at-text .before .before in
+    lines-done _ _ _ _ _ _ _ (start .pre) _ (at-text .parse-map .ensures) _ (at-lines .parsed .given .1) _ (at-allowed .before .may-map .ensures) (not-left _ (at-allowed .if1 .left))
+    _ (at-above .map-lines .ensures) _ (at-covered .before .all-covered .ensures) _ _ _ _ _ _ (not-left _ (at-covered .if2 .left))
+    (at-base .before .lifted-lines .ensures) (at-base .lifted-base .ensures) (at-lifted .lift .ensures) (at-map .before .with-map .ensures)
+    (at-map .namespace-put .ensures) (c .lifted-map-put .ensures)
 
 pub write-lines-spec : {M : Type 1} → statement M
 write-lines-spec =
@@ -24,14 +29,13 @@ write-lines-spec =
     (λ c. search writing)  -- returns
     (λ c κs. search writing)  -- may-map-requires
     (λ c. search writing)  -- returns-2
-    (λ c κs. search writing)  -- namespace-at-requires
     (λ c κs. search writing)  -- map-lines-requires
     (λ c κs. search writing)  -- all-covered-requires
+    (λ c. search writing)  -- returns-3
     (λ c κs. search writing)  -- lifted-lines-requires
     (λ c κs. search writing)  -- lifted-base-requires
     (λ c κs. search writing)  -- lift-requires
     (λ c κs. search writing)  -- with-map-requires
     (λ c κs. search writing)  -- namespace-put-requires
     (λ c κs. search writing)  -- lifted-map-put-requires
-    returns-3
-    (λ c. search writing))  -- returns-4
+    returns-4)
