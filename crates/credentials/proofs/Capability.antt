@@ -5,12 +5,13 @@ use mathlib.Core.Bool.{Bool, true, false}
 use mathlib.Core.List.{List}
 use borrow.Author.Needs.{needs}
 use borrow.Author.Tests.{lt-ltb, le-ltb}
+use Rattle.prelude.proofs.Tests.{not-taken, not-left}
 use Rattle.capability.specs.declared.CapabilitySet.{CapabilitySet}
-use Rattle.capability.specs.Sets.{isWithin, loweredTo}
+use Rattle.capability.specs.Sets.{capLastCap, isWithin, loweredTo}
 use Rattle.capability.proofs.Sets.{lowered-all}
 use Rattle.records.specs.declared.Process.{Process}
 use Rattle.tables.specs.Tables.{State, tablesOf, processAt, putProcess}
-use Rattle.tables.specs.Find.{processNamed, namespaceNamed}
+use Rattle.tables.specs.Find.{callerNamed, namespaceNamed}
 use Rattle.tables.specs.Reply.{refused, yes′, no′, Promise}
 use Rattle.tables.specs.declared.find.Found.{Found}
 use Rattle.tables.specs.declared.find.Found.the-variants.{At, Nothing}
@@ -21,29 +22,29 @@ use Rattle.hierarchy.specs.Walks.{capableIn}
 use Rattle.credentials.specs.Calls.{capableReply, withSets, dropOf}
 
 -- ---- the question
-module _ (s : State) (c name number : ℕ) (r : Found) (named : r ≡ processNamed s c) where
+module _ (s : State) (c name number : ℕ) (r : Found) (named : r ≡ callerNamed s c) where
   pub ask-nobody : r ≡ Nothing → refused 3 ≡ capableReply s c name number
   unfolding capableReply
   ask-nobody e = rw (← named, e)
 
-  module _ (i : ℕ) (at : r ≡ At i) (f : Found) (space : f ≡ namespaceNamed s name) where
+  module _ (i : ℕ) (at : r ≡ At i) (f : Found) (space : f ≡ namespaceNamed s i name) where
     pub ask-nowhere : f ≡ Nothing → refused 3 ≡ capableReply s c name number
     unfolding capableReply
     ask-nowhere e = rw (← named, at, ← space, e)
 
     module _ (n : ℕ) (in-it : f ≡ At n) where
-      pub ask-no-number : 36 < number → refused 22 ≡ capableReply s c name number
+      pub ask-no-number : capLastCap < number → refused 22 ≡ capableReply s c name number
       unfolding capableReply
-      ask-no-number h = rw (← named, at, ← space, in-it, lt-ltb 36 number h)
+      ask-no-number h = rw (← named, at, ← space, in-it, lt-ltb capLastCap number h)
 
-      module _ (h : number ≤ 36) (p : Process) (read : p ≡ processAt s i) (t : Bool) (able : t ≡ capableIn s p n number) where
+      module _ (h : number ≤ capLastCap) (p : Process) (read : p ≡ processAt s i) (t : Bool) (able : t ≡ capableIn s p n number) where
         pub ask-yes : t ≡ true → yes′ ≡ capableReply s c name number
         unfolding capableReply
-        ask-yes e = rw (← named, at, ← space, in-it, le-ltb 36 number h, ← read, ← able, e)
+        ask-yes e = rw (← named, at, ← space, in-it, le-ltb capLastCap number h, ← read, ← able, e)
 
         pub ask-no : t ≡ false → no′ ≡ capableReply s c name number
         unfolding capableReply
-        ask-no e = rw (← named, at, ← space, in-it, le-ltb 36 number h, ← read, ← able, e)
+        ask-no e = rw (← named, at, ← space, in-it, le-ltb capLastCap number h, ← read, ← able, e)
 
 -- ---- the process with lowered sets
 module _ (p : Process) (permitted effective : ℕ) (small : permitted < 2 ^ 64) (slight : effective < 2 ^ 64)
@@ -59,7 +60,7 @@ module _ (p : Process) (permitted effective : ℕ) (small : permitted < 2 ^ 64) 
       rw (first, second)
 
 -- ---- drop
-module _ (l : List ℕ) (c permitted effective : ℕ) (r : Found) (named : r ≡ processNamed (tablesOf l) c) where
+module _ (l : List ℕ) (c permitted effective : ℕ) (r : Found) (named : r ≡ callerNamed (tablesOf l) c) where
   pub drop-nobody : r ≡ Nothing → Promise (Refused ESRCH) l l (dropOf (tablesOf l) c permitted effective)
   unfolding dropOf
   drop-nobody e = refuses ESRCH l (dropOf (tablesOf l) c permitted effective) (rw (← named, e))
@@ -111,5 +112,7 @@ pub ruleset dropping = (
   drop-done,
   given-part,
   given-within,
+  not-taken,
+  not-left,
   needs,
 )

@@ -10,17 +10,19 @@ use lib.ListN.{length, take, replicate, length-map}
 use lib.Seq.{take-at}
 use borrow.Author.Needs.{needs}
 use borrow.Author.Tests.{lt-ltb, le-ltb}
-use Rattle.prelude.proofs.Tests.{by-test}
+use Rattle.prelude.proofs.Tests.{by-test, not-taken, not-left}
 use Rattle.prelude.specs.Lists.{consOf, allOf}
+use Rattle.capability.specs.Sets.{capSetgid}
 use Rattle.idmap.specs.Good.{noId}
+use Rattle.idmap.specs.Batch.{batchSize}
 use Rattle.idmap.specs.Lookup.{idOr}
 use Rattle.records.specs.declared.Kind.the-variants.{Group}
 use Rattle.records.specs.declared.GroupList.{GroupList}
 use Rattle.records.specs.declared.Process.{Process}
 use Rattle.records.specs.declared.Namespace.{Namespace}
-use Rattle.records.specs.Records.{isWritten}
+use Rattle.records.specs.Records.{maxGroups, isWritten}
 use Rattle.tables.specs.Tables.{State, tablesOf, processAt, namespaceAt, putProcess}
-use Rattle.tables.specs.Find.{processNamed}
+use Rattle.tables.specs.Find.{callerNamed}
 use Rattle.tables.specs.Reply.{Outcome, done, refuse, Promise}
 use Rattle.tables.specs.declared.find.Found.{Found}
 use Rattle.tables.specs.declared.find.Found.the-variants.{At, Nothing}
@@ -69,30 +71,30 @@ module _ (s : State) (n : ℕ) where
         (λ t. rw (option-is x, t))
         (λ t. rw (option-is x, t, some-group list (rw t at e)))
 
-  module _ (list : List ℕ) (few : length list ≤ 16) (given kernel : List ℕ) (groups : GroupList) (t : Bool) (read : given ≡ batchOf list)
-      (found : kernel ≡ toKernelEach s Group n given) (made : groups ≡ groupList (take (min (length list) 16) kernel)) (tested : t ≡ allIds (groups .ids)) where
+  module _ (list : List ℕ) (few : length list ≤ maxGroups) (given kernel : List ℕ) (groups : GroupList) (t : Bool) (read : given ≡ batchOf list)
+      (found : kernel ≡ toKernelEach s Group n given) (made : groups ≡ groupList (take (min (length list) maxGroups) kernel)) (tested : t ≡ allIds (groups .ids)) where
     -- the kernel IDs of the list
-    kernel-is : take (min (length list) 16) kernel ≡ map kernelOr list
+    kernel-is : take (min (length list) maxGroups) kernel ≡ map kernelOr list
     unfolding eachBy batchOf kernelOr
     kernel-is =
-        let m : min (length list) 16 ≡ length list = omega arith in
-        rw (m, found, read, map-append kernelOr list (replicate (20 - length list) 0)) (take-at (map kernelOr list) (map kernelOr (replicate (20 - length list) 0)) (length list) (length-map list kernelOr))
+        let m : min (length list) maxGroups ≡ length list = omega arith in
+        rw (m, found, read, map-append kernelOr list (replicate (batchSize - length list) 0)) (take-at (map kernelOr list) (map kernelOr (replicate (batchSize - length list) 0)) (length list) (length-map list kernelOr))
 
     groups-are : groups ≡ groupList (map kernelOr list)
     groups-are = made ∙ ap groupList kernel-is
 
-    ids-are : allIds (map kernelOr list ++ replicate (16 - length (map kernelOr list)) 0) ≡ t
+    ids-are : allIds (map kernelOr list ++ replicate (maxGroups - length (map kernelOr list)) 0) ≡ t
     unfolding groupList
     ids-are = sym (tested ∙ rw groups-are)
 
     pub kernel-listed : t ≡ true → _≡_ {A = Listed} (record { mapped = true; groups = groups }) (listedOf (kernelGroups (byLiftedMaps s) n list))
-    kernel-listed e = rw (every-group (16 - length (map kernelOr list)) list (ids-are ∙ e), groups-are)
+    kernel-listed e = rw (every-group (maxGroups - length (map kernelOr list)) list (ids-are ∙ e), groups-are)
 
     pub kernel-unlisted : (a : Listed) → t ≡ false → a ≡ listedOf none → a ≡ listedOf (kernelGroups (byLiftedMaps s) n list)
-    kernel-unlisted a e q = q ∙ sym (ap listedOf (some-group (16 - length (map kernelOr list)) list (ids-are ∙ e)))
+    kernel-unlisted a e q = q ∙ sym (ap listedOf (some-group (maxGroups - length (map kernelOr list)) list (ids-are ∙ e)))
 
 -- ---- none_listed, with_list
-pub listed-none : _≡_ {A = Listed} (record { mapped = false; groups = record { count = 0; ids = replicate 16 0 } }) (listedOf none)
+pub listed-none : _≡_ {A = Listed} (record { mapped = false; groups = record { count = 0; ids = replicate maxGroups 0 } }) (listedOf none)
 unfolding groupList
 listed-none = refl
 
@@ -117,13 +119,13 @@ module _ (s : State) (i : ℕ) (p : Process) (listed : Listed) where
   after-some none e t = absurd (true≢false (sym t ∙ ap (λ (a : Listed). a .mapped) e))
   after-some (some ids) e t = rw e
 
-module _ (by : Translation) (l : List ℕ) (c : ℕ) (list : List ℕ) (r : Found) (named : r ≡ processNamed (tablesOf l) c) where
+module _ (by : Translation) (l : List ℕ) (c : ℕ) (list : List ℕ) (r : Found) (named : r ≡ callerNamed (tablesOf l) c) where
   pub groups-nobody : r ≡ Nothing → Promise (Refused ESRCH) l l (setGroupsOf by (tablesOf l) c list)
   unfolding setGroupsOf
   groups-nobody e = refuses ESRCH l (setGroupsOf by (tablesOf l) c list) (rw (← named, e))
 
   module _ (i : ℕ) (at : r ≡ At i) (p : Process) (read : p ≡ processAt (tablesOf l) i) (t : Bool)
-      (able : t ≡ capableIn (tablesOf l) p (p .namespace) 6) where
+      (able : t ≡ capableIn (tablesOf l) p (p .namespace) capSetgid) where
     pub groups-incapable : t ≡ false → Promise (Refused EPERM) l l (setGroupsOf by (tablesOf l) c list)
     unfolding setGroupsOf
     groups-incapable e = refuses EPERM l (setGroupsOf by (tablesOf l) c list) (rw (← named, at, ← read, ← able, e))
@@ -140,17 +142,17 @@ module _ (by : Translation) (l : List ℕ) (c : ℕ) (list : List ℕ) (r : Foun
         groups-denied e = refuses EPERM l (setGroupsOf by (tablesOf l) c list) (rw (← named, at, ← read, ← able, y, ← home, ← written, yw, e))
 
         module _ (allowed : own .deny ≡ false) where
-          pub groups-too-many : 16 < length list → Promise (Refused EINVAL) l l (setGroupsOf by (tablesOf l) c list)
+          pub groups-too-many : maxGroups < length list → Promise (Refused EINVAL) l l (setGroupsOf by (tablesOf l) c list)
           unfolding setGroupsOf
           groups-too-many h =
               refuses EINVAL l (setGroupsOf by (tablesOf l) c list)
-              (rw (← named, at, ← read, ← able, y, ← home, ← written, yw, allowed, lt-ltb 16 (length list) h))
+              (rw (← named, at, ← read, ← able, y, ← home, ← written, yw, allowed, lt-ltb maxGroups (length list) h))
 
-          module _ (h : length list ≤ 16) (listed : Listed) (got : listed ≡ listedOf (kernelGroups by (p .namespace) list)) where
+          module _ (h : length list ≤ maxGroups) (listed : Listed) (got : listed ≡ listedOf (kernelGroups by (p .namespace) list)) where
             groups-listed : setGroupsOf by (tablesOf l) c list
                 ≡ thenList (kernelGroups by (p .namespace) list) (refuse (tablesOf l) 22) (afterList (tablesOf l) i p)
             unfolding setGroupsOf afterList
-            groups-listed = rw (← named, at, ← read, ← able, y, ← home, ← written, yw, allowed, le-ltb 16 (length list) h)
+            groups-listed = rw (← named, at, ← read, ← able, y, ← home, ← written, yw, allowed, le-ltb maxGroups (length list) h)
 
             pub groups-unmapped : listed .mapped ≡ false → Promise (Refused EINVAL) l l (setGroupsOf by (tablesOf l) c list)
             groups-unmapped t =
@@ -175,5 +177,7 @@ pub ruleset grouping = (
   groups-too-many,
   groups-unmapped,
   groups-done,
+  not-taken,
+  not-left,
   needs,
 )

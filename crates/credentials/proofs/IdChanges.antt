@@ -6,8 +6,10 @@ use mathlib.Core.List.{List}
 use lib.Dec.{eqb}
 use borrow.Author.Needs.{needs}
 use borrow.Author.Tests.{eq-eqb, ne-eqb}
+use Rattle.prelude.proofs.Tests.{not-taken, not-left}
 use Rattle.capability.specs.declared.CapabilitySet.{CapabilitySet}
 use Rattle.capability.specs.Sets.{emptySet}
+use Rattle.idmap.specs.Good.{noId}
 use Rattle.idmap.specs.declared.Translated.{Translated}
 use Rattle.idmap.specs.declared.Translated.the-variants.{Id, Unmapped}
 use Rattle.records.specs.declared.Kind.{Kind}
@@ -16,7 +18,7 @@ use Rattle.records.specs.declared.Ids.{Ids}
 use Rattle.records.specs.declared.Process.{Process}
 use Rattle.records.specs.Records.{idsIn, setIdOf}
 use Rattle.tables.specs.Tables.{State, tablesOf, processAt, putProcess}
-use Rattle.tables.specs.Find.{processNamed}
+use Rattle.tables.specs.Find.{callerNamed}
 use Rattle.tables.specs.Reply.{Outcome, done, refuse, unless, Promise}
 use Rattle.tables.specs.declared.find.Found.{Found}
 use Rattle.tables.specs.declared.find.Found.the-variants.{At, Nothing}
@@ -29,12 +31,12 @@ use Rattle.credentials.specs.Calls.{chosen, thenThree, isOneOf, allOneOf
 
 -- ---- an ID that is given
 module _ (s : State) (kind : Kind) (n x old : ℕ) where
-  pub chosen-old : x ≡ 4294967295 → Id old ≡ chosen (byLiftedMaps s) kind n x old
-  chosen-old e = rw (eq-eqb x 4294967295 e)
+  pub chosen-old : x ≡ noId → Id old ≡ chosen (byLiftedMaps s) kind n x old
+  chosen-old e = rw (eq-eqb x noId e)
 
-  pub chosen-new : (r : Translated) → (x ≡ 4294967295 → ⊥) → r ≡ toKernel s kind n x → r ≡ chosen (byLiftedMaps s) kind n x old
+  pub chosen-new : (r : Translated) → (x ≡ noId → ⊥) → r ≡ toKernel s kind n x → r ≡ chosen (byLiftedMaps s) kind n x old
   unfolding byLiftedMaps
-  chosen-new r e q = rw (ne-eqb x 4294967295 e) q
+  chosen-new r e q = rw (ne-eqb x noId e) q
 
 -- ---- one of three
 module _ (x : ℕ) (i : Ids) where
@@ -147,7 +149,7 @@ afterThree by s kind i p old a b d =
     (refuse s 1)
     (record { reply = done; tables = putProcess s i (withIds by kind p (record { real = a; effective = b; saved = d })) })
 
-module _ (by : Translation) (l : List ℕ) (kind : Kind) (c real effective saved : ℕ) (r : Found) (named : r ≡ processNamed (tablesOf l) c) where
+module _ (by : Translation) (l : List ℕ) (kind : Kind) (c real effective saved : ℕ) (r : Found) (named : r ≡ callerNamed (tablesOf l) c) where
   pub set-ids-nobody : r ≡ Nothing → Promise (Refused ESRCH) l l (setIdsOf by (tablesOf l) kind c real effective saved)
   unfolding setIdsOf
   set-ids-nobody e = refuses ESRCH l (setIdsOf by (tablesOf l) kind c real effective saved) (rw (← named, e))
@@ -222,5 +224,7 @@ pub ruleset changing = (
   set-ids-no-saved,
   set-ids-denied,
   set-ids-done,
+  not-taken,
+  not-left,
   needs,
 )

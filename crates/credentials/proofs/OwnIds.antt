@@ -10,18 +10,18 @@ use borrow.Author.Needs.{needs}
 use Rattle.prelude.proofs.Lists.{take-map, take-min}
 use Rattle.idmap.specs.declared.Line.{Line}
 use Rattle.idmap.specs.declared.Translated.{Translated}
-use Rattle.idmap.specs.Lookup.{idOr}
+use Rattle.idmap.specs.Lookup.{idOr, overflowId}
 use Rattle.records.specs.declared.Kind.{Kind}
 use Rattle.records.specs.declared.Kind.the-variants.{User, Group}
 use Rattle.records.specs.declared.Ids.{Ids}
 use Rattle.records.specs.declared.GroupList.{GroupList}
 use Rattle.records.specs.declared.Process.{Process}
+use Rattle.records.specs.Records.{maxGroups}
 use Rattle.tables.specs.Tables.{State, processAt, liftedAt}
-use Rattle.tables.specs.Find.{processNamed}
+use Rattle.tables.specs.Find.{callerNamed}
 use Rattle.tables.specs.declared.find.Found.{Found}
 use Rattle.tables.specs.declared.find.Found.the-variants.{At, Nothing}
 use Rattle.tables.specs.declared.answer.Errno.the-variants.{ESRCH}
-use Rattle.tables.specs.declared.answer.Answer.the-variants.{Refused, Own}
 use Rattle.hierarchy.specs.Walks.{Translation}
 use Rattle.hierarchy.specs.Lifted.{fromKernelBy, byLiftedMaps}
 use Rattle.hierarchy.specs.declared.batch.Known.{Known}
@@ -29,31 +29,33 @@ use Rattle.hierarchy.specs.Batch.{turnedBy, eachBy, fromKernelEach, knownBy}
 use Rattle.hierarchy.proofs.Batches.{Knows, found-at}
 use Rattle.hierarchy.proofs.Translations.{from-own}
 use Rattle.credentials.specs.declared.own.OwnIds.{OwnIds}
+use Rattle.credentials.specs.declared.own.OwnAnswer.the-variants.{Told, NotTold}
+use Rattle.credentials.specs.declared.own.OwnResult.{OwnResult}
 use Rattle.credentials.specs.declared.own.Groups.{Groups}
 use Rattle.credentials.specs.Batch.{ownBatch}
-use Rattle.credentials.specs.Calls.{shownAs, seen, seenIds, noIds, groupList, seenGroups, ownIdsOf}
+use Rattle.credentials.specs.Calls.{shownAs, seen, seenIds, groupList, seenGroups, noOwnIds, ownIdsOf}
 
 -- ---- three IDs, each after the one before it, by the lifted map that the tables have
 module _ (s : State) (kind : Kind) (ls : List Line) (b n : ℕ) (lines : ls ≡ liftedAt s kind n .lines) (base : b ≡ liftedAt s kind n .base) where
-  by-own : (x : ℕ) → idOr 65534 (fromKernelBy s kind (record { base = b; lines = ls }) n x) ≡ seen (byLiftedMaps s) kind n x
+  by-own : (x : ℕ) → idOr overflowId (fromKernelBy s kind (record { base = b; lines = ls }) n x) ≡ seen (byLiftedMaps s) kind n x
   unfolding byLiftedMaps
   by-own x = ap shownAs (from-own s kind ls b n lines base x _ refl)
 
-  pub seen-three : (i : Ids) (r : Translated) (v : ℕ) (e d : Known) → r ≡ fromKernelBy s kind (record { base = b; lines = ls }) n (i .real) → v ≡ idOr 65534 r
-      → e ≡ knownBy (turnedBy true s kind (record { base = b; lines = ls }) n) 65534 (record { id = i .real; found = v }) (i .effective)
-      → d ≡ knownBy (turnedBy true s kind (record { base = b; lines = ls }) n) 65534 e (i .saved)
+  pub seen-three : (i : Ids) (r : Translated) (v : ℕ) (e d : Known) → r ≡ fromKernelBy s kind (record { base = b; lines = ls }) n (i .real) → v ≡ idOr overflowId r
+      → e ≡ knownBy (turnedBy true s kind (record { base = b; lines = ls }) n) overflowId (record { id = i .real; found = v }) (i .effective)
+      → d ≡ knownBy (turnedBy true s kind (record { base = b; lines = ls }) n) overflowId e (i .saved)
       → record { real = v; effective = e .found; saved = d .found } ≡ seenIds (byLiftedMaps s) kind n i
   unfolding Knows
   seen-three i r v e d p w q t =
       let f : ℕ → Translated = fromKernelBy s kind (record { base = b; lines = ls }) n in
-      let one : v ≡ idOr 65534 (f (i .real)) = w ∙ ap (idOr 65534) p in
-      let second = found-at f 65534 (record { id = i .real; found = v }) e (i .effective) one q in
-      let third = found-at f 65534 e d (i .saved) (second .1) t in
+      let one : v ≡ idOr overflowId (f (i .real)) = w ∙ ap (idOr overflowId) p in
+      let second = found-at f overflowId (record { id = i .real; found = v }) e (i .effective) one q in
+      let third = found-at f overflowId e d (i .saved) (second .1) t in
       λ j. record { real = (one ∙ by-own (i .real)) j; effective = (second .0 ∙ by-own (i .effective)) j; saved = (third .0 ∙ by-own (i .saved)) j }
 
 -- ---- all group IDs at once
-module _ (s : State) (n : ℕ) (three : Ids) (g : GroupList) (given found : List ℕ) (seen-list : GroupList) (long : length (g .ids) ≡ 16) (read : given ≡ ownBatch (g .ids) three)
-    (seen-all : found ≡ fromKernelEach s Group n 65534 given) where
+module _ (s : State) (n : ℕ) (three : Ids) (g : GroupList) (given found : List ℕ) (seen-list : GroupList) (long : length (g .ids) ≡ maxGroups) (read : given ≡ ownBatch (g .ids) three)
+    (seen-all : found ≡ fromKernelEach s Group n overflowId given) where
   -- a group ID as the namespace sees it
   abbrev shown : ℕ → ℕ
   shown = seen (byLiftedMaps s) Group n
@@ -67,25 +69,25 @@ module _ (s : State) (n : ℕ) (three : Ids) (g : GroupList) (given found : List
   unfolding byLiftedMaps eachBy ownBatch
   found-is = seen-all ∙ rw (read, map-append shown (g .ids) (three .real ∷ three .effective ∷ three .saved ∷ 0 ∷ []))
 
-  many : length (map shown (g .ids)) ≡ 16
+  many : length (map shown (g .ids)) ≡ maxGroups
   many = length-map (g .ids) shown ∙ long
 
-  -- the one at place 16 + k
-  own-at : (k : ℕ) → getD found (16 + k) 0 ≡ getD own k 0
+  -- the one at place maxGroups + k
+  own-at : (k : ℕ) → getD found (maxGroups + k) 0 ≡ getD own k 0
   own-at k =
       let l = map shown (g .ids) in
-      ap (λ (xs : List ℕ). getD xs (16 + k) 0) found-is ∙ ap (λ (m : ℕ). getD (l ++ own) (m + k) 0) (sym many) ∙ getD-append-add l own k 0
+      ap (λ (xs : List ℕ). getD xs (maxGroups + k) 0) found-is ∙ ap (λ (m : ℕ). getD (l ++ own) (m + k) 0) (sym many) ∙ getD-append-add l own k 0
 
-  list-is : take (min (g .count) 16) found ≡ map shown (take (g .count) (g .ids))
+  list-is : take (min (g .count) maxGroups) found ≡ map shown (take (g .count) (g .ids))
   list-is =
-      let m : min (g .count) 16 ≡ min (g .count) (length (g .ids)) = ap (min (g .count)) (sym long) in
-      ap (take (min (g .count) 16)) found-is
-      ∙ take-append-le (min (g .count) 16) (map shown (g .ids)) _ (omega (arith, many))
-      ∙ take-map shown (min (g .count) 16) (g .ids)
+      let m : min (g .count) maxGroups ≡ min (g .count) (length (g .ids)) = ap (min (g .count)) (sym long) in
+      ap (take (min (g .count) maxGroups)) found-is
+      ∙ take-append-le (min (g .count) maxGroups) (map shown (g .ids)) _ (omega (arith, many))
+      ∙ take-map shown (min (g .count) maxGroups) (g .ids)
       ∙ ap (map shown) (ap (λ (k : ℕ). take k (g .ids)) m ∙ sym (take-min (g .count) (g .ids)))
 
-  pub groups-seen : seen-list ≡ groupList (take (min (g .count) 16) found)
-      → _≡_ {A = Groups} (record { three = record { real = getD found 16 0; effective = getD found 17 0; saved = getD found 18 0 }; list = seen-list })
+  pub groups-seen : seen-list ≡ groupList (take (min (g .count) maxGroups) found)
+      → _≡_ {A = Groups} (record { three = record { real = getD found maxGroups 0; effective = getD found (maxGroups + 1) 0; saved = getD found (maxGroups + 2) 0 }; list = seen-list })
       (record { three = seenIds (byLiftedMaps s) Group n three; list = seenGroups (byLiftedMaps s) n g })
   unfolding seenGroups
   groups-seen e = λ i. record {
@@ -94,15 +96,14 @@ module _ (s : State) (n : ℕ) (three : Ids) (g : GroupList) (given found : List
   }
 
 -- ---- the call
-module _ (by : Translation) (s : State) (c : ℕ) (r : Found) (named : r ≡ processNamed s c) where
-  pub own-nobody : r ≡ Nothing
-      → _≡_ {A = OwnIds} (record { answer = Refused ESRCH; users = noIds; groups = noIds; supplementary = record { count = 0; ids = replicate 16 0 } }) (ownIdsOf by s c)
-  unfolding ownIdsOf groupList
-  own-nobody e = rw (← named, e)
+module _ (by : Translation) (s : State) (c : ℕ) (r : Found) (named : r ≡ callerNamed s c) where
+  pub own-nobody : (o : OwnIds) → o ≡ noOwnIds → r ≡ Nothing → _≡_ {A = OwnResult} (record { answer = NotTold ESRCH; ids = o }) (ownIdsOf by s c)
+  unfolding ownIdsOf
+  own-nobody o q e = rw (← named, e, q)
 
   pub own-found : (i : ℕ) (p : Process) (a : Ids) (g : Groups) → r ≡ At i → p ≡ processAt s i → a ≡ seenIds by User (p .namespace) (p .users)
       → g ≡ record { three = seenIds by Group (p .namespace) (p .groups); list = seenGroups by (p .namespace) (p .supplementary) }
-      → _≡_ {A = OwnIds} (record { answer = Own; users = a; groups = g .three; supplementary = g .list }) (ownIdsOf by s c)
+      → _≡_ {A = OwnResult} (record { answer = Told; ids = record { users = a; groups = g .three; supplementary = g .list } }) (ownIdsOf by s c)
   unfolding ownIdsOf
   own-found i p a g at read ea eg = rw (← named, at, ← read, ea, eg)
 

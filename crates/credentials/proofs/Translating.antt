@@ -6,7 +6,7 @@ use Rattle.idmap.specs.declared.Translated.{Translated}
 use Rattle.idmap.specs.declared.Translated.the-variants.{Id, Unmapped}
 use Rattle.records.specs.declared.Kind.{Kind}
 use Rattle.tables.specs.Tables.{State}
-use Rattle.tables.specs.Find.{processNamed, namespaceNamed}
+use Rattle.tables.specs.Find.{callerNamed, namespaceNamed}
 use Rattle.tables.specs.Reply.{refused, id, unmapped}
 use Rattle.tables.specs.declared.find.Found.{Found}
 use Rattle.tables.specs.declared.find.Found.the-variants.{At, Nothing}
@@ -27,12 +27,12 @@ module _ (s : State) (kind : Kind) (way : Way) (n x : ℕ) (r : Translated) wher
   turned-back e found = rw (e, found)
 
 -- ---- the call
-module _ (by : Translation) (s : State) (kind : Kind) (way : Way) (c name x : ℕ) (r : Found) (named : r ≡ processNamed s c) where
+module _ (by : Translation) (s : State) (kind : Kind) (way : Way) (c name x : ℕ) (r : Found) (named : r ≡ callerNamed s c) where
   pub translate-nobody : r ≡ Nothing → refused 3 ≡ translateReply by s kind way c name x
   unfolding translateReply
   translate-nobody e = rw (← named, e)
 
-  module _ (i : ℕ) (at : r ≡ At i) (f : Found) (space : f ≡ namespaceNamed s name) where
+  module _ (i : ℕ) (at : r ≡ At i) (f : Found) (space : f ≡ namespaceNamed s i name) where
     pub translate-nowhere : f ≡ Nothing → refused 3 ≡ translateReply by s kind way c name x
     unfolding translateReply
     translate-nowhere e = rw (← named, at, ← space, e)

@@ -7,24 +7,25 @@ use mathlib.Core.Option.{Option, none, some}
 use lib.Dec.{eqb, ltb}
 use lib.ListN.{length, take, replicate}
 use Rattle.prelude.specs.Lists.{allOf}
-use Rattle.capability.specs.Sets.{emptySet, isWithin}
+use Rattle.capability.specs.Sets.{capSetgid, capLastCap, emptySet, isWithin}
 use Rattle.idmap.specs.declared.Translated.{Translated}
 use Rattle.idmap.specs.declared.Translated.the-variants.{Id, Unmapped}
 use Rattle.idmap.specs.Good.{noId}
-use Rattle.idmap.specs.Lookup.{idOr}
+use Rattle.idmap.specs.Lookup.{idOr, overflowId}
 use Rattle.records.specs.declared.Kind.{Kind}
 use Rattle.records.specs.declared.Kind.the-variants.{User, Group}
 use Rattle.records.specs.declared.Ids.{Ids}
 use Rattle.records.specs.declared.GroupList.{GroupList}
 use Rattle.records.specs.declared.Process.{Process}
-use Rattle.records.specs.Records.{idsIn, setIdOf, isWritten}
+use Rattle.records.specs.Records.{maxGroups, idsIn, setIdOf, isWritten}
 use Rattle.tables.specs.Tables.{State, processAt, namespaceAt, putProcess}
-use Rattle.tables.specs.Find.{processNamed, namespaceNamed}
+use Rattle.tables.specs.Find.{callerNamed, namespaceNamed}
 use Rattle.tables.specs.Reply.{Reply, refused, done, yes′, no′, id, unmapped, Outcome, refuse, onFound, when, unless}
 use Rattle.tables.specs.declared.answer.Errno.the-variants.{ESRCH}
-use Rattle.tables.specs.declared.answer.Answer.the-variants.{Refused, Own}
 use Rattle.hierarchy.specs.Walks.{Translation, capableIn}
 use Rattle.credentials.specs.declared.own.OwnIds.{OwnIds}
+use Rattle.credentials.specs.declared.own.OwnAnswer.the-variants.{Told, NotTold}
+use Rattle.credentials.specs.declared.own.OwnResult.{OwnResult}
 use Rattle.credentials.specs.declared.groups.Listed.{Listed}
 use Rattle.credentials.specs.declared.translate.Way.{Way}
 use Rattle.credentials.specs.declared.translate.Way.the-variants.{Out, Back}
@@ -91,7 +92,7 @@ mayTake s kind p new old = capableIn s p (p .namespace) (setIdOf kind) || allOne
 
 unfoldable pub setIdsOf : Translation → State → Kind → ℕ → ℕ → ℕ → ℕ → Outcome
 setIdsOf by s kind c real effective saved =
-    onFound (processNamed s c) (refuse s 3) (λ i.
+    onFound (callerNamed s c) (refuse s 3) (λ i.
     thenThree
     (chosen by kind (processAt s i .namespace) real (idsIn kind (processAt s i) .real))
     (chosen by kind (processAt s i .namespace) effective (idsIn kind (processAt s i) .effective))
@@ -106,9 +107,9 @@ abbrev pub toOption : Translated → Option ℕ
 toOption (Id x) = some x
 toOption Unmapped = none
 
--- groups in a list of at most 16
+-- groups in a list that has places for them
 unfoldable pub groupList : List ℕ → GroupList
-groupList ids = record { count = length ids; ids = ids ++ replicate (16 - length ids) 0 }
+groupList ids = record { count = length ids; ids = ids ++ replicate (maxGroups - length ids) 0 }
 
 unfoldable pub withList : Process → GroupList → Process
 withList p new = record {
@@ -136,20 +137,20 @@ listedOf (some ids) = record { mapped = true; groups = groupList ids }
 -- the new list replaces the old, in the order given, repeats kept
 unfoldable pub setGroupsOf : Translation → State → ℕ → List ℕ → Outcome
 setGroupsOf by s c list =
-    onFound (processNamed s c) (refuse s 3) (λ i.
-    unless (capableIn s (processAt s i) (processAt s i .namespace) 6) (refuse s 1)
+    onFound (callerNamed s c) (refuse s 3) (λ i.
+    unless (capableIn s (processAt s i) (processAt s i .namespace) capSetgid) (refuse s 1)
     (unless (isWritten (namespaceAt s (processAt s i .namespace) .groups .state)) (refuse s 1)
     (when (namespaceAt s (processAt s i .namespace) .deny) (refuse s 1)
-    (when (ltb 16 (length list)) (refuse s 22)
+    (when (ltb maxGroups (length list)) (refuse s 22)
     (thenList (kernelGroups by (processAt s i .namespace) list) (refuse s 22) (λ ids.
     record { reply = done; tables = putProcess s i (withList (processAt s i) (groupList ids)) }))))))
 
 -- ---- the capability question
 unfoldable pub capableReply : State → ℕ → ℕ → ℕ → Reply
 capableReply s c name number =
-    onFound (processNamed s c) (refused 3) (λ i.
-    onFound (namespaceNamed s name) (refused 3) (λ n.
-    when (ltb 36 number) (refused 22) (cond (capableIn s (processAt s i) n number) yes′ no′)))
+    onFound (callerNamed s c) (refused 3) (λ i.
+    onFound (namespaceNamed s i name) (refused 3) (λ n.
+    when (ltb capLastCap number) (refused 22) (cond (capableIn s (processAt s i) n number) yes′ no′)))
 
 -- ---- drop: it never adds a capability to the permitted set; the new effective set is any part of the new permitted
 unfoldable pub withSets : Process → ℕ → ℕ → Process
@@ -165,14 +166,14 @@ withSets p permitted effective = record {
 
 unfoldable pub dropOf : State → ℕ → ℕ → ℕ → Outcome
 dropOf s c permitted effective =
-    onFound (processNamed s c) (refuse s 3) (λ i.
+    onFound (callerNamed s c) (refuse s 3) (λ i.
     unless (isWithin permitted (processAt s i .permitted .bits)) (refuse s 1)
     (unless (isWithin effective permitted) (refuse s 1)
     (record { reply = done; tables = putProcess s i (withSets (processAt s i) permitted effective) })))
 
--- ---- own IDs, as seen in the process's namespace; an untranslatable one shows as 65534
+-- ---- own IDs, as seen in the process's namespace; an untranslatable one shows as the overflow ID
 abbrev pub shownAs : Translated → ℕ
-shownAs r = idOr 65534 r
+shownAs r = idOr overflowId r
 
 abbrev pub seen : Translation → Kind → ℕ → ℕ → ℕ
 seen by kind n x = shownAs (by .back kind n x)
@@ -187,14 +188,19 @@ noIds = record { real = 0; effective = 0; saved = 0 }
 unfoldable pub seenGroups : Translation → ℕ → GroupList → GroupList
 seenGroups by n g = groupList (map (seen by Group n) (take (g .count) (g .ids)))
 
-unfoldable pub ownIdsOf : Translation → State → ℕ → OwnIds
+abbrev pub noOwnIds : OwnIds
+noOwnIds = record { users = noIds; groups = noIds; supplementary = record { count = 0; ids = replicate maxGroups 0 } }
+
+unfoldable pub ownIdsOf : Translation → State → ℕ → OwnResult
 ownIdsOf by s c =
-    onFound (processNamed s c) (record { answer = Refused ESRCH; users = noIds; groups = noIds; supplementary = groupList [] }) (λ i.
+    onFound (callerNamed s c) (record { answer = NotTold ESRCH; ids = noOwnIds }) (λ i.
     record {
-      answer = Own;
-      users = seenIds by User (processAt s i .namespace) (processAt s i .users);
-      groups = seenIds by Group (processAt s i .namespace) (processAt s i .groups);
-      supplementary = seenGroups by (processAt s i .namespace) (processAt s i .supplementary);
+      answer = Told;
+      ids = record {
+        users = seenIds by User (processAt s i .namespace) (processAt s i .users);
+        groups = seenIds by Group (processAt s i .namespace) (processAt s i .groups);
+        supplementary = seenGroups by (processAt s i .namespace) (processAt s i .supplementary);
+      };
     })
 
 -- ---- translate, naming a namespace
@@ -210,6 +216,6 @@ translated Unmapped = unmapped
 
 unfoldable pub translateReply : Translation → State → Kind → Way → ℕ → ℕ → ℕ → Reply
 translateReply by s kind way c name x =
-    onFound (processNamed s c) (refused 3) (λ i.
-    onFound (namespaceNamed s name) (refused 3) (λ n.
+    onFound (callerNamed s c) (refused 3) (λ i.
+    onFound (namespaceNamed s i name) (refused 3) (λ n.
     translated (turned by kind way n x)))

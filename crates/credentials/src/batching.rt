@@ -2,18 +2,22 @@
 ghost use mathlib.Core.Path.{_≡_};
 ghost use Prim.Native.Nat.{_≤_, min};
 ghost use lib.ListN.{length, take};
+ghost use Rattle.records.specs.Records.{maxGroups};
 ghost use Rattle.credentials.specs.Calls.{groupList};
 ghost use Rattle.credentials.specs.Batch.{batchOf, ownBatch, missingOf, allIds};
+use idmap::NO_ID;
+use idmap::batch::BATCH_SIZE;
 use idmap::batch::Batch;
 use records::GroupList;
 use records::Ids;
+use records::MAX_GROUPS;
 
-// At most 16 groups as a batch, with 0 in the other places.
+// Groups as a batch, with 0 in the other places, where a list has room for them.
 pub(crate) fn batch_of(list: &[u32]) -> Batch
-    requires { ⌜ length (now list) ≤ 16 ⌝ }
+    requires { ⌜ length (now list) ≤ maxGroups ⌝ }
     ensures { λ r. ⌜ r ≡ batchOf (now (list .entry)) ⌝ }
 {
-    let mut ids: Batch = [0; 20];
+    let mut ids: Batch = [0; BATCH_SIZE];
     let mut i: usize = 0;
     while i < list.len() {
         ids[i] = list[i];
@@ -22,8 +26,8 @@ pub(crate) fn batch_of(list: &[u32]) -> Batch
     ids
 }
 
-// The 16 places of a process's supplementary groups, then its own three group IDs, and 0 in the last place.
-pub(crate) fn own_batch(list: [u32; 16], groups: Ids) -> Batch
+// The places of a process's supplementary groups, then its own three group IDs, and 0 in the last place.
+pub(crate) fn own_batch(list: [u32; MAX_GROUPS], groups: Ids) -> Batch
     ensures { λ r. ⌜ r ≡ ownBatch list groups ⌝ }
 {
     [
@@ -52,31 +56,35 @@ pub(crate) fn own_batch(list: [u32; 16], groups: Ids) -> Batch
 
 // As many of `count` as a list has places for.
 fn places(count: usize) -> usize
-    ensures { λ r. ⌜ r ≡ min count 16 ⌝ }
+    ensures { λ r. ⌜ r ≡ min count maxGroups ⌝ }
 {
-    if count < 16 { count } else { 16 }
+    if count < MAX_GROUPS {
+        count
+    } else {
+        MAX_GROUPS
+    }
 }
 
-// The first 16 IDs of a batch.
-fn sixteen(batch: Batch) -> [u32; 16]
-    ensures { λ r. ⌜ r ≡ take 16 batch ⌝ }
+// As many IDs of a batch as a list has places for.
+fn group_places(batch: Batch) -> [u32; MAX_GROUPS]
+    ensures { λ r. ⌜ r ≡ take maxGroups batch ⌝ }
 {
-    let mut ids = [0u32; 16];
+    let mut ids = [0u32; MAX_GROUPS];
     let mut i: usize = 0;
-    while i < 16 {
+    while i < MAX_GROUPS {
         ids[i] = batch[i];
         i += 1;
     }
     ids
 }
 
-// The first `count` IDs of a batch as a list, 16 at most. The places past them are emptied from the last one on.
+// The first `count` IDs of a batch as a list, as many as it has places for at most. The places past them are emptied from the last one on.
 pub(crate) fn group_list(batch: Batch, count: usize) -> GroupList
-    ensures { λ r. ⌜ r ≡ groupList (take (min count 16) batch) ⌝ }
+    ensures { λ r. ⌜ r ≡ groupList (take (min count maxGroups) batch) ⌝ }
 {
     let end = places(count);
-    let mut ids = sixteen(batch);
-    let mut i: usize = 16;
+    let mut ids = group_places(batch);
+    let mut i: usize = MAX_GROUPS;
     while end < i {
         i -= 1;
         ids[i] = 0;
@@ -91,16 +99,16 @@ pub(crate) fn group_list(batch: Batch, count: usize) -> GroupList
 fn missing(id: u32) -> u32
     ensures { λ r. ⌜ r ≡ missingOf id ⌝ }
 {
-    if id == 4294967295 { 1 } else { 0 }
+    if id == NO_ID { 1 } else { 0 }
 }
 
 // Whether none of them is 'no ID'. They are counted, so that the compiler tests several at once.
-pub(crate) fn all_ids(ids: [u32; 16]) -> bool
+pub(crate) fn all_ids(ids: [u32; MAX_GROUPS]) -> bool
     ensures { λ r. ⌜ r ≡ allIds ids ⌝ }
 {
     let mut count: u32 = 0;
     let mut i: usize = 0;
-    while i < 16 {
+    while i < MAX_GROUPS {
         count += missing(ids[i]);
         i += 1;
     }

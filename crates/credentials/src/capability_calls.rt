@@ -5,6 +5,7 @@ ghost use Rattle.tables.specs.Reply.{replyOf, Promise};
 ghost use mathlib.Core.Bool.{true};
 ghost use Rattle.capability.specs.Sets.{isWithin};
 ghost use Rattle.credentials.specs.Calls.{withSets, capableReply, dropOf};
+use capability::CAP_LAST_CAP;
 use capability::CapabilitySet;
 use hierarchy::capable::capable;
 use records::Process;
@@ -12,8 +13,8 @@ use tables::Tables;
 use tables::answer::Answer;
 use tables::answer::Errno;
 use tables::find::Found;
-use tables::find::find_namespace;
-use tables::find::find_process;
+use tables::find::find_caller;
+use tables::find::named_namespace;
 use tables::processes::process_at;
 use tables::processes::process_put;
 
@@ -22,13 +23,15 @@ use tables::processes::process_put;
 pub fn ask(t: &Tables, caller: u64, name: u64, number: u32) -> Answer
     ensures { λ r. ⌜ replyOf r ≡ capableReply (tablesOf (now (t .entry))) caller name number ⌝ }
 {
-    let Found::At(place) = find_process(t, caller) else {
+    // The caller must exist, then the namespace named, else 3.
+    let Found::At(place) = find_caller(t, caller) else {
         return Answer::Refused(Errno::ESRCH);
     };
-    let Found::At(n) = find_namespace(t, name) else {
+    let Found::At(n) = named_namespace(t, place, name) else {
         return Answer::Refused(Errno::ESRCH);
     };
-    if 36 < number {
+    // 22 if the number is over 36, else yes or no.
+    if CAP_LAST_CAP < number {
         return Answer::Refused(Errno::EINVAL);
     }
     let p = process_at(t, place);
@@ -66,20 +69,21 @@ fn lowered(p: Process, permitted: u64, effective: u64) -> Process
 pub fn drop(t: &mut Tables, caller: u64, permitted: u64, effective: u64) -> Answer
     ensures { λ r. ⌜ Promise r (now (t .entry)) (now (t .exit)) (dropOf (tablesOf (now (t .entry))) caller permitted effective) ⌝ }
 {
-    let Found::At(place) = find_process(t, caller) else {
+    // The caller must exist, else 3.
+    let Found::At(place) = find_caller(t, caller) else {
         return Answer::Refused(Errno::ESRCH);
     };
     let p = process_at(t, place);
     let old = p.permitted;
     let new = CapabilitySet::new(permitted);
-    if new.within(old) {
-        if CapabilitySet::new(effective).within(new) {
-            process_put(t, place, lowered(p, permitted, effective));
-            Answer::Done
-        } else {
-            Answer::Refused(Errno::EPERM)
-        }
-    } else {
-        Answer::Refused(Errno::EPERM)
+    // 1 where it adds one to the permitted set, ..
+    if !new.within(old) {
+        return Answer::Refused(Errno::EPERM);
     }
+    // .. or the new effective set is no part of the new permitted.
+    if !CapabilitySet::new(effective).within(new) {
+        return Answer::Refused(Errno::EPERM);
+    }
+    process_put(t, place, lowered(p, permitted, effective));
+    Answer::Done
 }

@@ -3,6 +3,7 @@ ghost use mathlib.Core.Path.{_≡_};
 ghost use mathlib.Core.Option.{none};
 ghost use Prim.Native.Nat.{_≤_};
 ghost use lib.ListN.{length};
+ghost use Rattle.records.specs.Records.{maxGroups};
 ghost use Rattle.tables.specs.Tables.{tablesOf};
 ghost use Rattle.tables.specs.Reply.{Promise};
 ghost use Rattle.hierarchy.specs.Lifted.{byLiftedMaps, quick};
@@ -10,17 +11,19 @@ ghost use Rattle.credentials.specs.Calls.{withList, kernelGroups, listed
 use crate::batching::all_ids;
 use crate::batching::batch_of;
 use crate::batching::group_list;
+use capability::CAP_SETGID;
 use hierarchy::batch::to_kernel_each;
 use hierarchy::capable::capable;
 use records::GroupList;
 use records::Kind;
+use records::MAX_GROUPS;
 use records::Process;
 use records::kinds::is_written;
 use tables::Tables;
 use tables::answer::Answer;
 use tables::answer::Errno;
 use tables::find::Found;
-use tables::find::find_process;
+use tables::find::find_caller;
 use tables::namespaces::namespace_at;
 use tables::processes::process_at;
 use tables::processes::process_put;
@@ -38,14 +41,14 @@ fn none_listed() -> Listed
         mapped: false,
         groups: GroupList {
             count: 0,
-            ids: [0; 16],
+            ids: [0; MAX_GROUPS],
         },
     }
 }
 
-// The kernel IDs of at most 16 groups, in order.
+// The kernel IDs of groups, in order, where a list has room for them.
 fn kernel_groups(t: &Tables, namespace: u64, list: &[u32]) -> Listed
-    requires { ⌜ length (now list) ≤ 16 ⌝ }
+    requires { ⌜ length (now list) ≤ maxGroups ⌝ }
     ensures { λ r. ⌜ r ≡ listedOf (kernelGroups (byLiftedMaps (tablesOf (now (t .entry)))) «namespace» (now (list .entry))) ⌝ }
 {
     let kernel = to_kernel_each(t, Kind::Group, namespace, batch_of(list));
@@ -85,31 +88,36 @@ fn with_list(p: Process, list: GroupList) -> Process
 pub fn setgroups(t: &mut Tables, caller: u64, list: &[u32]) -> Answer
     ensures { λ r. ⌜ Promise r (now (t .entry)) (now (t .exit)) (quick setGroupsOf (tablesOf (now (t .entry))) caller (now (list .entry))) ⌝ }
 {
-    let Found::At(place) = find_process(t, caller) else {
+    // The caller must exist, else 3.
+    let Found::At(place) = find_caller(t, caller) else {
         return Answer::Refused(Errno::ESRCH);
     };
     let p = process_at(t, place);
-    if capable(t, p, p.namespace, 6) {} else {
+    // 1 without SETGID in its own namespace, ..
+    if !capable(t, p, p.namespace, CAP_SETGID) {
         return Answer::Refused(Errno::EPERM);
     }
     let own = namespace_at(t, p.namespace as usize);
     let map = own.groups;
     let state = map.state;
-    if is_written(state) {} else {
+    // .. or group map unwritten, ..
+    if !is_written(state) {
         return Answer::Refused(Errno::EPERM);
     }
+    // .. or "deny".
     if own.deny {
         return Answer::Refused(Errno::EPERM);
     }
-    if 16 < list.len() {
+    // 22 over 16 groups.
+    if MAX_GROUPS < list.len() {
         return Answer::Refused(Errno::EINVAL);
     }
     let listed = kernel_groups(t, p.namespace, list);
-    if listed.mapped {
-        let groups = listed.groups;
-        process_put(t, place, with_list(p, groups));
-        Answer::Done
-    } else {
-        Answer::Refused(Errno::EINVAL)
+    // 22 if one has no translation.
+    if !listed.mapped {
+        return Answer::Refused(Errno::EINVAL);
     }
+    let groups = listed.groups;
+    process_put(t, place, with_list(p, groups));
+    Answer::Done
 }

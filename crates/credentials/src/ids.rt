@@ -9,6 +9,7 @@ ghost use Rattle.credentials.specs.Calls.{chosen, isOneOf, allOneOf, los
 use capability::CapabilitySet;
 use hierarchy::capable::capable;
 use hierarchy::translate::to_kernel;
+use idmap::NO_ID;
 use idmap::Translated;
 use records::Ids;
 use records::Kind;
@@ -19,7 +20,7 @@ use tables::Tables;
 use tables::answer::Answer;
 use tables::answer::Errno;
 use tables::find::Found;
-use tables::find::find_process;
+use tables::find::find_caller;
 use tables::processes::process_at;
 use tables::processes::process_put;
 
@@ -27,7 +28,7 @@ use tables::processes::process_put;
 fn choose(t: &Tables, kind: Kind, namespace: u64, id: u32, old: u32) -> Translated
     ensures { λ r. ⌜ r ≡ chosen (byLiftedMaps (tablesOf (now (t .entry)))) kind «namespace» id old ⌝ }
 {
-    if id == 4294967295 {
+    if id == NO_ID {
         Translated::Id(old)
     } else {
         to_kernel(t, kind, namespace, id)
@@ -182,11 +183,13 @@ pub fn set_ids(
 ) -> Answer
     ensures { λ r. ⌜ Promise r (now (t .entry)) (now (t .exit)) (quick setIdsOf (tablesOf (now (t .entry))) kind caller real effective saved) ⌝ }
 {
-    let Found::At(place) = find_process(t, caller) else {
+    // The caller must exist, else 3.
+    let Found::At(place) = find_caller(t, caller) else {
         return Answer::Refused(Errno::ESRCH);
     };
     let p = process_at(t, place);
     let old = ids_in(kind, p);
+    // 4,294,967,295 leaves one as it is; 22 if another given ID has no translation out.
     let Translated::Id(a) = choose(t, kind, p.namespace, real, old.real) else {
         return Answer::Refused(Errno::EINVAL);
     };
@@ -201,10 +204,10 @@ pub fn set_ids(
         effective: b,
         saved: d,
     };
-    if permitted(t, kind, p, new, old) {
-        process_put(t, place, with_ids(t, kind, p, new));
-        Answer::Done
-    } else {
-        Answer::Refused(Errno::EPERM)
+    // 1 if, without SETUID (SETGID) in its own namespace, any is none of the caller's present three.
+    if !permitted(t, kind, p, new, old) {
+        return Answer::Refused(Errno::EPERM);
     }
+    process_put(t, place, with_ids(t, kind, p, new));
+    Answer::Done
 }

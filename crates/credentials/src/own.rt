@@ -2,32 +2,63 @@
 ghost use mathlib.Core.Path.{_≡_};
 ghost use Rattle.tables.specs.Tables.{tablesOf};
 ghost use Rattle.hierarchy.specs.Lifted.{byLiftedMaps, quick};
-ghost use Rattle.credentials.specs.Calls.{seenIds, seenGroups, ownIdsOf};
+ghost use Rattle.credentials.specs.Calls.{seenIds, seenGroups, noOwnIds, ownIdsOf};
 use crate::batching::group_list;
 use crate::batching::own_batch;
 use hierarchy::batch::Known;
 use hierarchy::batch::from_kernel_each;
 use hierarchy::batch::known_for;
 use hierarchy::translate::from_kernel_by;
+use idmap::OVERFLOW_ID;
 use idmap::lookup::id_or;
 use records::GroupList;
 use records::Ids;
 use records::Kind;
+use records::MAX_GROUPS;
 use tables::Tables;
-use tables::answer::Answer;
 use tables::answer::Errno;
 use tables::find::Found;
-use tables::find::find_process;
+use tables::find::find_caller;
 use tables::lifted_maps::lifted_base;
 use tables::lifted_maps::lifted_lines;
 use tables::processes::process_at;
 
-// The answer, and the IDs beside it; where it is a refusal they are 0.
+// A process's own IDs, as seen in its namespace.
 pub struct OwnIds {
-    pub answer: Answer,
     pub users: Ids,
     pub groups: Ids,
     pub supplementary: GroupList,
+}
+
+// Whether they are told.
+pub enum OwnAnswer {
+    Told,
+    NotTold(Errno),
+}
+
+// The answer, and the IDs beside it; where they are not told they are 0.
+pub struct OwnResult {
+    pub answer: OwnAnswer,
+    pub ids: OwnIds,
+}
+
+// No IDs.
+pub fn no_own_ids() -> OwnIds
+    ensures { λ r. ⌜ r ≡ noOwnIds ⌝ }
+{
+    let none = Ids {
+        real: 0,
+        effective: 0,
+        saved: 0,
+    };
+    OwnIds {
+        users: none,
+        groups: none,
+        supplementary: GroupList {
+            count: 0,
+            ids: [0; MAX_GROUPS],
+        },
+    }
 }
 
 // The three user IDs. One that is the same as the one before it is not looked up again.
@@ -41,13 +72,23 @@ fn seen_users(t: &Tables, namespace: u64, users: Ids) -> Ids
         id: users.real,
         found: id_or(
             from_kernel_by(t, kind, lines, base, namespace, users.real),
-            65534,
+            OVERFLOW_ID,
         ),
     };
     let id = users.effective;
-    let effective = known_for(t, kind, true, lines, base, namespace, id, 65534, real);
+    let effective = known_for(t, kind, true, lines, base, namespace, id, OVERFLOW_ID, real);
     let id = users.saved;
-    let saved = known_for(t, kind, true, lines, base, namespace, id, 65534, effective);
+    let saved = known_for(
+        t,
+        kind,
+        true,
+        lines,
+        base,
+        namespace,
+        id,
+        OVERFLOW_ID,
+        effective,
+    );
     Ids {
         real: real.found,
         effective: effective.found,
@@ -66,12 +107,13 @@ fn seen_groups(t: &Tables, namespace: u64, three: Ids, list: GroupList) -> Group
     ensures { λ r. ⌜ r ≡ record { three = seenIds (byLiftedMaps (tablesOf (now (t .entry)))) Kind.Group «namespace» three; list = seenGroups (byLiftedMaps (tablesOf (now (t .entry)))) «namespace» list } ⌝ }
 {
     let kernel = list.ids;
-    let seen = from_kernel_each(t, Kind::Group, namespace, own_batch(kernel, three), 65534);
+    let given = own_batch(kernel, three);
+    let seen = from_kernel_each(t, Kind::Group, namespace, given, OVERFLOW_ID);
     Groups {
         three: Ids {
-            real: seen[16],
-            effective: seen[17],
-            saved: seen[18],
+            real: seen[MAX_GROUPS],
+            effective: seen[MAX_GROUPS + 1],
+            saved: seen[MAX_GROUPS + 2],
         },
         list: group_list(seen, list.count as usize),
     }
@@ -79,23 +121,14 @@ fn seen_groups(t: &Tables, namespace: u64, three: Ids, list: GroupList) -> Group
 
 // The caller's own IDs. Refuses: 3 no caller.
 // Ruled out, for instance: kernel IDs shown as they are; group IDs by the user map.
-pub fn own_ids(t: &Tables, caller: u64) -> OwnIds
+pub fn own_ids(t: &Tables, caller: u64) -> OwnResult
     ensures { λ r. ⌜ r ≡ quick ownIdsOf (tablesOf (now (t .entry))) caller ⌝ }
 {
-    let Found::At(place) = find_process(t, caller) else {
-        let none = Ids {
-            real: 0,
-            effective: 0,
-            saved: 0,
-        };
-        return OwnIds {
-            answer: Answer::Refused(Errno::ESRCH),
-            users: none,
-            groups: none,
-            supplementary: GroupList {
-                count: 0,
-                ids: [0; 16],
-            },
+    // The caller must exist, else 3.
+    let Found::At(place) = find_caller(t, caller) else {
+        return OwnResult {
+            answer: OwnAnswer::NotTold(Errno::ESRCH),
+            ids: no_own_ids(),
         };
     };
     let p = process_at(t, place);
@@ -106,10 +139,13 @@ pub fn own_ids(t: &Tables, caller: u64) -> OwnIds
     let seen = seen_groups(t, p.namespace, groups, supplementary);
     let seen_own = seen.three;
     let seen_list = seen.list;
-    OwnIds {
-        answer: Answer::Own,
+    let ids = OwnIds {
         users: seen_users,
         groups: seen_own,
         supplementary: seen_list,
+    };
+    OwnResult {
+        answer: OwnAnswer::Told,
+        ids: ids,
     }
 }

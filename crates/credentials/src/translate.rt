@@ -12,8 +12,8 @@ use tables::Tables;
 use tables::answer::Answer;
 use tables::answer::Errno;
 use tables::find::Found;
-use tables::find::find_namespace;
-use tables::find::find_process;
+use tables::find::find_caller;
+use tables::find::named_namespace;
 
 // Out: from a namespace's ID to its kernel ID. Back: from a kernel ID to the namespace's.
 pub enum Way {
@@ -22,7 +22,7 @@ pub enum Way {
 }
 
 // An ID translated between the namespace at `place` and the initial one.
-fn turn(t: &Tables, kind: Kind, way: Way, place: u64, id: u32) -> Translated
+fn turned(t: &Tables, kind: Kind, way: Way, place: u64, id: u32) -> Translated
     ensures { λ r. ⌜ r ≡ turned (byLiftedMaps (tablesOf (now (t .entry)))) kind way place id ⌝ }
 {
     match way {
@@ -36,13 +36,15 @@ fn turn(t: &Tables, kind: Kind, way: Way, place: u64, id: u32) -> Translated
 pub fn translate(t: &Tables, kind: Kind, way: Way, caller: u64, name: u64, id: u32) -> Answer
     ensures { λ r. ⌜ replyOf r ≡ quick translateReply (tablesOf (now (t .entry))) kind way caller name id ⌝ }
 {
-    let Found::At(_) = find_process(t, caller) else {
+    // The caller must exist, then the namespace named, else 3.
+    let Found::At(place) = find_caller(t, caller) else {
         return Answer::Refused(Errno::ESRCH);
     };
-    let Found::At(n) = find_namespace(t, name) else {
+    let Found::At(n) = named_namespace(t, place, name) else {
         return Answer::Refused(Errno::ESRCH);
     };
-    let r = turn(t, kind, way, n as u64, id);
+    // An ID, or "unmapped", which is an answer.
+    let r = turned(t, kind, way, n as u64, id);
     match r {
         Translated::Id(x) => Answer::Id(x),
         Translated::Unmapped => Answer::Unmapped,

@@ -3,12 +3,13 @@ use mathlib.Core.Path.{_≡_}
 use Prim.Native.Nat.{_≤_, _-_}
 use lib.ListN.{length}
 use Rattle.prelude.proofs.Lists.{MadeTo}
+use Rattle.idmap.specs.Batch.{batchSize}
 use Rattle.credentials.proofs.Batches.{listing}
 use Rattle.credentials.proofs.batching.batch_of.Statement.{statement}
 use Rattle.credentials.proofs.batching.batch_of.Tie as tie
 
 abbrev Inv-loop : tie.InvT-loop
-Inv-loop list ids₀ i₀ ids i = (i ≤ length list) × (length ids ≡ 20) × MadeTo 20 0 list ids i
+Inv-loop list ids₀ i₀ ids i = (i ≤ length list) × (length ids ≡ batchSize) × MadeTo batchSize 0 list ids i
 
 abbrev μ-loop : tie.MeasureT-loop
 μ-loop list ids₀ i₀ ids i = length list - i

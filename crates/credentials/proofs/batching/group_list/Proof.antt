@@ -3,12 +3,13 @@ use mathlib.Core.Path.{_≡_}
 use Prim.Native.Nat.{_≤_, min}
 use lib.ListN.{length}
 use Rattle.prelude.proofs.Lists.{MadeTo}
+use Rattle.records.specs.Records.{maxGroups}
 use Rattle.credentials.proofs.Batches.{listing}
 use Rattle.credentials.proofs.batching.group_list.Statement.{statement}
 use Rattle.credentials.proofs.batching.group_list.Tie as tie
 
 abbrev Inv-loop : tie.InvT-loop
-Inv-loop count end ids₀ i₀ ids i = (end ≤ i) × (i ≤ 16) × (end ≡ min count 16) × (length ids ≡ 16) × MadeTo 16 0 ids₀ ids i
+Inv-loop count end ids₀ i₀ ids i = (end ≤ i) × (i ≤ maxGroups) × (end ≡ min count maxGroups) × (length ids ≡ maxGroups) × MadeTo maxGroups 0 ids₀ ids i
 
 abbrev μ-loop : tie.MeasureT-loop
 μ-loop count end ids₀ i₀ ids i = i
@@ -17,7 +18,7 @@ pub group-list-spec : {M : Type 1} → statement M
 group-list-spec =
     tie.close (tie.spec Inv-loop μ-loop
     (λ c κs. search listing)  -- places-requires
-    (λ c κs. search listing)  -- sixteen-requires
+    (λ c κs. search listing)  -- group-places-requires
     (λ c. search listing)  -- loop-holds
     (λ c. search listing)  -- sub-i
     (λ c. search listing)  -- mul-ids

@@ -6,11 +6,11 @@ use Rattle.credentials.proofs.capability_calls.ask.Tie as tie
 pub ask-spec : {M : Type 1} → statement M
 ask-spec =
     tie.close (tie.spec
-    (λ c κs. search dropping)  -- find-process-requires
+    (λ c κs. search dropping)  -- find-caller-requires
     (λ c. search dropping)  -- enum-known-place
     (λ c. search dropping)  -- enum-told
     (λ c. search dropping)  -- returns
-    (λ c κs. search dropping)  -- find-namespace-requires
+    (λ c κs. search dropping)  -- named-namespace-requires
     (λ c. search dropping)  -- enum-known-n
     (λ c. search dropping)  -- enum-told-2
     (λ c. search dropping)  -- returns-2

@@ -6,9 +6,10 @@ use Rattle.credentials.proofs.own.own_ids.Tie as tie
 pub own-ids-spec : {M : Type 1} → statement M
 own-ids-spec =
     tie.close (tie.spec
-    (λ c κs. search showing)  -- find-process-requires
+    (λ c κs. search showing)  -- find-caller-requires
     (λ c. search showing)  -- enum-known-place
     (λ c. search showing)  -- enum-told
+    (λ c κs. search showing)  -- no-own-ids-requires
     (λ c. search showing)  -- returns
     (λ c κs. search showing)  -- process-at-requires
     (λ c κs. search showing)  -- seen-users-requires

@@ -9,7 +9,11 @@ seen-groups-spec =
     (λ c κs. search showing)  -- own-batch-requires
     (λ c κs. search showing)  -- from-kernel-each-requires
     (λ c. search showing)  -- array-read-t12
-    (λ c. search showing)  -- array-read-t15
-    (λ c. search showing)  -- array-read-t18
+    (λ c. search showing)  -- add-t13
+    (λ c. search showing)  -- mul-t14
+    (λ c. search showing)  -- array-read-t17
+    (λ c. search showing)  -- add-t18
+    (λ c. search showing)  -- mul-t19
+    (λ c. search showing)  -- array-read-t22
     (λ c κs. search showing)  -- group-list-requires
     (λ c. search showing))  -- returns
