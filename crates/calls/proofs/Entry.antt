@@ -9,71 +9,92 @@ use borrow.Author.Needs.{needs}
 use Rattle.records.specs.declared.Kind.{Kind}
 use Rattle.records.specs.declared.Kind.the-variants.{User, Group}
 use Rattle.records.specs.declared.Ids.{Ids}
+use Rattle.records.specs.Records.{maxGroups}
+use Rattle.tables.specs.declared.answer.Errno.{Errno}
 use Rattle.tables.specs.declared.answer.Answer.{Answer}
-use Rattle.tables.specs.declared.answer.Answer.the-variants.{Refused, Done, Child, ChildIn, NewNamespace, Yes, No, Length, Id, Unmapped, Own}
+use Rattle.tables.specs.declared.answer.Answer.the-variants.{Refused, Done, Child, ChildIn, NewNamespace, Yes, No, Length, Id, Unmapped}
 use Rattle.tables.specs.declared.find.Found.{Found}
 use Rattle.tables.specs.declared.find.Found.the-variants.{At, Nothing}
 use Rattle.tables.specs.Tables.{State, tablesOf, processAt}
-use Rattle.tables.specs.Find.{processNamed}
+use Rattle.tables.specs.Find.{callerNamed}
 use Rattle.tables.specs.Reply.{Reply, replyOf, Outcome, isRefused, Promise, onFound}
 use Rattle.hierarchy.specs.Walks.{Translation}
 use Rattle.process.specs.Calls.{forkOf, cloneOf, unshareOf, setnsOf}
 use Rattle.mapping.specs.Calls.{ReadOutcome, writeMapOf, writeSetgroupsOf, readMapOf, readSetgroupsOf}
 use Rattle.credentials.specs.declared.own.OwnIds.{OwnIds}
+use Rattle.credentials.specs.declared.own.OwnAnswer.{OwnAnswer}
+use Rattle.credentials.specs.declared.own.OwnAnswer.the-variants.{Told, NotTold}
+use Rattle.credentials.specs.declared.own.OwnResult.{OwnResult}
+use Rattle.credentials.specs.OwnReply.{ownReplyBy}
 use Rattle.credentials.specs.declared.translate.Way.{Way}
-use Rattle.credentials.specs.Calls.{setIdsOf, groupList, setGroupsOf, capableReply, dropOf, seen, seenIds, seenGroups, ownIdsOf, translateReply}
+use Rattle.credentials.specs.Calls.{setIdsOf, groupList, setGroupsOf, capableReply, dropOf, seen, seenIds, seenGroups, noOwnIds, ownIdsOf, translateReply}
+use Rattle.calls.specs.declared.CallAnswer.the-variants.{Plain, Own}
+use Rattle.calls.specs.declared.Response.{Response}
 use Rattle.calls.specs.declared.Call.{Call}
 use Rattle.calls.specs.declared.Call.the-variants.{Fork, Clone, Unshare, Setns, WriteMap, WriteSetgroups, ReadMap, ReadSetgroups, SetIds, SetGroups, Capable, Drop, OwnIdsOf, Translate}
-use Rattle.calls.specs.Calls.{Step, callReply, plainOf, resultOf, stored, asked, readBy, answerBy, CallPromise}
+use Rattle.calls.specs.Calls.{Step, callReply, plainOf, ownBy, ownOf, listedIds, stored, asked, readBy, answerBy, CallPromise}
 
--- ---- nothing else stands in a result than its reply lists
-abbrev Whole : OwnIds → Type 0
-Whole r = r ≡ resultOf (r .answer) (callReply r)
+-- ---- no other IDs stand in a response than its reply lists
+abbrev Whole : Response → Type 0
+Whole r = r .ids ≡ listedIds (callReply r)
 
 -- an answer with nothing beside it
-plain-is : (a : Answer) → (callReply (plainOf a) ≡ replyOf a) × Whole (plainOf a)
+plain-whole : (a : Answer) → Whole (plainOf a)
 unfolding groupList
-plain-is (Refused e) = (refl, refl)
-plain-is Done = (refl, refl)
-plain-is (Child p) = (refl, refl)
-plain-is (ChildIn p n) = (refl, refl)
-plain-is (NewNamespace n) = (refl, refl)
-plain-is Yes = (refl, refl)
-plain-is No = (refl, refl)
-plain-is (Length n) = (refl, refl)
-plain-is (Id x) = (refl, refl)
-plain-is Unmapped = (refl, refl)
-plain-is Own = (refl, refl)
+plain-whole (Refused e) = refl
+plain-whole Done = refl
+plain-whole (Child p) = refl
+plain-whole (ChildIn p n) = refl
+plain-whole (NewNamespace n) = refl
+plain-whole Yes = refl
+plain-whole No = refl
+plain-whole (Length n) = refl
+plain-whole (Id x) = refl
+plain-whole Unmapped = refl
 
 -- own IDs
 groups-whole : (xs : List ℕ) → groupList xs ≡ groupList (take (groupList xs .count) (groupList xs .ids))
 unfolding groupList
-groups-whole xs = ap groupList (sym (take-append-seam xs (replicate (16 - length xs) 0)))
+groups-whole xs = ap groupList (sym (take-append-seam xs (replicate (maxGroups - length xs) 0)))
 
-found-whole : (f : Found) {x : OwnIds} {next : ℕ → OwnIds} → Whole x → ((i : ℕ) → Whole (next i)) → Whole (onFound f x next)
-found-whole (At i) p q = q i
-found-whole Nothing p q = p
+found-whole : (f : Found) (x : OwnResult) (next : ℕ → OwnResult) → Whole (ownOf x) → ((i : ℕ) → Whole (ownOf (next i))) → Whole (ownOf (onFound f x next))
+found-whole (At i) x next p q = q i
+found-whole Nothing x next p q = p
 
-own-whole : (by : Translation) (s : State) (c : ℕ) → Whole (ownIdsOf by s c)
-unfolding ownIdsOf seenGroups
+own-whole : (by : Translation) (s : State) (c : ℕ) → Whole (ownOf (ownIdsOf by s c))
+unfolding ownIdsOf seenGroups groupList
 own-whole by s c =
-    found-whole (processNamed s c) refl
+    found-whole (callerNamed s c) _ _ refl
     (λ i j. record {
-      answer = Own;
       users = seenIds by User (processAt s i .namespace) (processAt s i .users);
       groups = seenIds by Group (processAt s i .namespace) (processAt s i .groups);
       supplementary = groups-whole (map (seen by Group (processAt s i .namespace)) (take (processAt s i .supplementary .count) (processAt s i .supplementary .ids))) j;
     })
 
-promises : (r : OwnIds) (l l′ b : List ℕ) (step : Step) → _≡_ {A = Step} (record { reply = callReply r; tables = tablesOf l′; buffer = b }) step → Whole r → (isRefused (callReply r) ≡ true → l′ ≡ l) → CallPromise r l l′ b step
-promises r l l′ b step o w k = record { outcome = o; whole = w ∙ ap (λ (x : Step). resultOf (r .answer) (x .reply)) o; kept = k }
+-- ---- plain and own
+pub plain-is : (a : Answer) (o : OwnIds) → o ≡ noOwnIds → _≡_ {A = Response} (record { answer = Plain a; ids = o }) (plainOf a)
+plain-is a o e = rw e
 
-module _ (r : OwnIds) (a : Answer) (e : r ≡ plainOf a) (l : List ℕ) where
+module _ (o : OwnResult) where
+  pub own-told : o .answer ≡ Told → _≡_ {A = Response} (record { answer = Own; ids = o .ids }) (ownOf o)
+  own-told e = rw e
+
+  pub own-not-told : (x : Errno) → o .answer ≡ NotTold x → _≡_ {A = Response} (record { answer = Plain (Refused x); ids = o .ids }) (ownOf o)
+  own-not-told x e = rw e
+
+own-reply : (a : OwnAnswer) (o : OwnIds) → callReply (ownBy a o) ≡ ownReplyBy a o
+own-reply Told o = refl
+own-reply (NotTold e) o = refl
+
+promises : (r : Response) (l l′ b : List ℕ) (step : Step) → _≡_ {A = Step} (record { reply = callReply r; tables = tablesOf l′; buffer = b }) step → Whole r → (isRefused (callReply r) ≡ true → l′ ≡ l) → CallPromise r l l′ b step
+promises r l l′ b step o w k = record { outcome = o; whole = w ∙ ap (λ (x : Step). listedIds (x .reply)) o; kept = k }
+
+module _ (r : Response) (a : Answer) (e : r ≡ plainOf a) (l : List ℕ) where
   reply-is : callReply r ≡ replyOf a
-  reply-is = ap callReply e ∙ plain-is a .0
+  reply-is = ap callReply e
 
   whole : Whole r
-  whole = subst Whole (sym e) (plain-is a .1)
+  whole = subst Whole (sym e) (plain-whole a)
 
   -- a call that may store
   stores : (l′ b : List ℕ) (o : Outcome) (step : Step) → Promise a l l′ o → step ≡ stored o b → CallPromise r l l′ b step
@@ -93,7 +114,7 @@ module _ (r : OwnIds) (a : Answer) (e : r ≡ plainOf a) (l : List ℕ) where
   asks b o step p q = promises r l l b step ((λ i. record { reply = (reply-is ∙ p) i; tables = tablesOf l; buffer = b }) ∙ sym q) whole (λ t. refl)
 
 -- ---- each call
-module _ (by : Translation) (c : Call) (l text list b : List ℕ) (r : OwnIds) where
+module _ (by : Translation) (c : Call) (l text list b : List ℕ) (r : Response) where
   pub fork-step : (a : Answer) (l′ : List ℕ) (p : ℕ) → c ≡ Fork p → Promise a l l′ (forkOf (tablesOf l) p) → r ≡ plainOf a → CallPromise r l l′ b (answerBy by (tablesOf l) c text list b)
   unfolding answerBy
   fork-step a l′ p e h q = stores r a q l l′ b (forkOf (tablesOf l) p) (answerBy by (tablesOf l) c text list b) h (rw e)
@@ -146,9 +167,14 @@ module _ (by : Translation) (c : Call) (l text list b : List ℕ) (r : OwnIds) w
   unfolding answerBy
   translate-step a k w p n x e q z = asks r a z l b (translateReply by (tablesOf l) k w p n x) (answerBy by (tablesOf l) c text list b) q (rw e)
 
-  pub own-ids-step : (p : ℕ) → c ≡ OwnIdsOf p → r ≡ ownIdsOf by (tablesOf l) p → CallPromise r l l b (answerBy by (tablesOf l) c text list b)
+  pub own-ids-step : (p : ℕ) (o : OwnResult) → c ≡ OwnIdsOf p → o ≡ ownIdsOf by (tablesOf l) p → r ≡ ownOf o → CallPromise r l l b (answerBy by (tablesOf l) c text list b)
   unfolding answerBy
-  own-ids-step p e q = promises r l l b (answerBy by (tablesOf l) c text list b) (rw (e, q)) (subst Whole (sym q) (own-whole by (tablesOf l) p)) (λ t. refl)
+  own-ids-step p o e f q =
+      let x : r ≡ ownOf (ownIdsOf by (tablesOf l) p) = rw f at q in
+      let reply = ap callReply x ∙ own-reply (ownIdsOf by (tablesOf l) p .answer) (ownIdsOf by (tablesOf l) p .ids) in
+      promises r l l b (answerBy by (tablesOf l) c text list b) ((λ i. record { reply = reply i; tables = tablesOf l; buffer = b }) ∙ rw e) (subst Whole (sym x) (own-whole by (tablesOf l) p)) (λ t. refl)
+
+pub ruleset answers = (plain-is, own-told, own-not-told, needs)
 
 pub ruleset entry = (
   fork-step,

@@ -2,10 +2,12 @@
 ghost use Rattle.tables.specs.Tables.{tablesOf};
 ghost use mathlib.Core.Path.{_≡_};
 ghost use Rattle.hierarchy.specs.Lifted.{quick};
-ghost use Rattle.calls.specs.Calls.{plainOf, answerBy, CallPromise};
+ghost use Rattle.calls.specs.Calls.{plainOf, ownOf, answerBy, CallPromise};
+use credentials::own::OwnAnswer;
 use credentials::own::OwnIds;
+use credentials::own::OwnResult;
+use credentials::own::no_own_ids;
 use credentials::translate::Way;
-use records::GroupList;
 use records::Ids;
 use records::Kind;
 use tables::Tables;
@@ -29,29 +31,50 @@ pub enum Call {
     Translate(Kind, Way, u64, u64, u32),
 }
 
+// An answer, or that the caller's own IDs are told.
+pub enum CallAnswer {
+    Plain(Answer),
+    Own,
+}
+
+// What a call answers, and the own IDs beside it; where none are told they are 0.
+pub struct Response {
+    pub answer: CallAnswer,
+    pub ids: OwnIds,
+}
+
 // An answer that has no IDs beside it.
-fn plain(answer: Answer) -> OwnIds
+fn plain(answer: Answer) -> Response
     ensures { λ r. ⌜ r ≡ plainOf answer ⌝ }
 {
-    let none = Ids {
-        real: 0,
-        effective: 0,
-        saved: 0,
-    };
-    OwnIds {
-        answer: answer,
-        users: none,
-        groups: none,
-        supplementary: GroupList {
-            count: 0,
-            ids: [0; 16],
+    let none = no_own_ids();
+    Response {
+        answer: CallAnswer::Plain(answer),
+        ids: none,
+    }
+}
+
+// What the own-ID question answers.
+fn own(result: OwnResult) -> Response
+    ensures { λ r. ⌜ r ≡ ownOf result ⌝ }
+{
+    let answer = result.answer;
+    let ids = result.ids;
+    match answer {
+        OwnAnswer::Told => Response {
+            answer: CallAnswer::Own,
+            ids: ids,
+        },
+        OwnAnswer::NotTold(e) => Response {
+            answer: CallAnswer::Plain(Answer::Refused(e)),
+            ids: ids,
         },
     }
 }
 
 // Answers a call: the promise is by cases the calls' own.
 // Ruled out, for instance: IDs beside an answer that has none; a clone made where unshare is asked for.
-pub fn answer(t: &mut Tables, c: Call, text: &[u8], list: &[u32], buffer: &mut [u8]) -> OwnIds
+pub fn answer(t: &mut Tables, c: Call, text: &[u8], list: &[u32], buffer: &mut [u8]) -> Response
     ensures { λ r. ⌜ CallPromise r (now (t .entry)) (now (t .exit)) (now (buffer .exit)) (quick answerBy (tablesOf (now (t .entry))) c (now (text .entry)) (now (list .entry)) (now (buffer .entry))) ⌝ }
 {
     match c {
@@ -106,7 +129,7 @@ pub fn answer(t: &mut Tables, c: Call, text: &[u8], list: &[u32], buffer: &mut [
             permitted,
             effective,
         )),
-        Call::OwnIdsOf(caller) => credentials::own::own_ids(t, caller),
+        Call::OwnIdsOf(caller) => own(credentials::own::own_ids(t, caller)),
         Call::Translate(kind, way, caller, name, id) => plain(credentials::translate::translate(
             t,
             kind,

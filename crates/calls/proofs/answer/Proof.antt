@@ -44,6 +44,7 @@ answer-spec =
     (λ c κs. search entry)  -- plain-requires-12
     (λ c. search entry)  -- enum-known-c-13
     (λ c κs. search entry)  -- own-ids-requires
+    (λ c κs. search entry)  -- own-requires
     (λ c. search entry)  -- enum-known-c-14
     (λ c κs. search entry)  -- translate-requires
     (λ c κs. search entry)  -- plain-requires-13
