@@ -1,7 +1,6 @@
 -- An exported call's promise is that of the call it stands for. Assumes nothing.
 use Prim.Native.Nat.{ℕ, _+_, _≤_, _<_}
-use mathlib.Core.Path.{_≡_, sym, ap, _∙_, subst}
-use mathlib.Core.Bool.{Bool, true, false}
+use mathlib.Core.Path.{_≡_, ap, _∙_, subst}
 use mathlib.Core.List.{List}
 use native.Mathlib.Omega.{arith}
 use lib.ListN.{length, getD, set, length-set}
@@ -9,13 +8,14 @@ use lib.Seq.{paste, paste-zero}
 use borrow.Author.Needs.{needs}
 use Rattle.prelude.specs.Parts.{putAt}
 use Rattle.prelude.proofs.Parts.{put-step, put-all}
-use Rattle.credentials.specs.declared.own.OwnIds.{OwnIds}
+use Rattle.credentials.specs.declared.own.OwnAnswer.the-variants.{Told, NotTold}
+use Rattle.credentials.specs.declared.own.OwnResult.{OwnResult}
 use Rattle.tables.specs.declared.answer.Errno.{Errno}
 use Rattle.tables.specs.declared.answer.Answer.{Answer}
 use Rattle.tables.specs.declared.answer.Answer.the-variants.{Refused}
 use Rattle.tables.specs.Reply.{Reply, replyOf, numberOf, Outcome, isRefused, Promise}
 use Rattle.mapping.specs.Calls.{ReadOutcome}
-use Rattle.exports.specs.Codes.{negated, codeOf, Coded, CodedRead, spaceAfter, idsRow, isOwn, CodedIds}
+use Rattle.exports.specs.Codes.{negated, codeOf, Coded, CodedRead, spaceAfter, idsRow, CodedIds}
 
 -- a refusal's number
 pub refusal-is : (e f : Errno) (n : ℕ) → e ≡ f → n ≡ negated (numberOf f) → n ≡ negated (numberOf e)
@@ -45,16 +45,12 @@ pub coded-question : (a : Answer) (code : ℕ) (r : Reply) → replyOf a ≡ r �
 coded-question a code r p e = e ∙ ap codeOf p
 
 -- own IDs
-module _ (own o : OwnIds) (t : Bool) (entry : List ℕ) where
-  pub ids-told : (exit row : List ℕ) → own ≡ o → t ≡ isOwn (own .answer) → t ≡ true → row ≡ idsRow (own .users) (own .groups) (own .supplementary) → exit ≡ putAt entry 0 row → CodedIds (own .supplementary .count) entry exit o
-  ids-told exit row p q r e f =
-      let g : isOwn (own .answer) ≡ true = sym q ∙ r in
-      subst (CodedIds (own .supplementary .count) entry exit) p (record { answer = rw g; words = rw g (f ∙ ap (putAt entry 0) e) })
+module _ (own o : OwnResult) (entry : List ℕ) (p : own ≡ o) where
+  pub ids-told : (exit row : List ℕ) → own .answer ≡ Told → row ≡ idsRow (own .ids) → exit ≡ putAt entry 0 row → CodedIds (own .ids .supplementary .count) entry exit o
+  ids-told exit row t e f = subst (CodedIds (own .ids .supplementary .count) entry exit) p (record { answer = rw t; words = rw t (f ∙ ap (putAt entry 0) e) })
 
-  pub ids-refused : (code : ℕ) → own ≡ o → t ≡ isOwn (own .answer) → t ≡ false → code ≡ codeOf (replyOf (own .answer)) → CodedIds code entry entry o
-  ids-refused code p q r e =
-      let g : isOwn (own .answer) ≡ false = sym q ∙ r in
-      subst (CodedIds code entry entry) p (record { answer = rw g e; words = rw g })
+  pub ids-refused : (e : Errno) (code : ℕ) → own .answer ≡ NotTold e → code ≡ negated (numberOf e) → CodedIds code entry entry o
+  ids-refused e code t q = subst (CodedIds code entry entry) p (record { answer = rw t q; words = rw t })
 
 -- one more word is in place at the start of a buffer
 pub put-first : (l vs t : List ℕ) (i : ℕ) → length vs ≤ length l → i < length vs → t ≡ paste l 0 vs i → set t i (getD vs i 0) ≡ paste l 0 vs (i + 1)

@@ -12,11 +12,13 @@ ghost use Rattle.process.specs.Calls.{forkOf, cloneOf, unshareOf, setnsOf};
 ghost use Rattle.mapping.specs.Calls.{writeMapOf, writeSetgroupsOf, readMapOf, readSetgroupsOf};
 ghost use Rattle.credentials.specs.declared.translate.Way.the-variants.{Out, Back};
 ghost use Rattle.credentials.specs.Calls.{setIdsOf, setGroupsOf, capableReply, dropOf, ownIdsOf, translateReply};
-ghost use Rattle.exports.specs.Codes.{negated, codeOf, Coded, CodedRead, spaceAfter, idsRow, isOwn, CodedIds};
+ghost use Rattle.exports.specs.Codes.{negated, codeOf, Coded, CodedRead, spaceAfter, idsRow, CodedIds};
+use credentials::own::OwnAnswer;
+use credentials::own::OwnIds;
 use credentials::translate::Way;
-use records::GroupList;
-use records::Ids;
+use idmap::NO_ID;
 use records::Kind;
+use records::MAX_GROUPS;
 use tables::Tables;
 use tables::answer::Answer;
 use tables::answer::Errno;
@@ -49,8 +51,7 @@ fn code(a: Answer) -> u64
         Answer::No => 0,
         Answer::Length(n) => n as u64,
         Answer::Id(x) => x as u64,
-        Answer::Unmapped => 4294967295,
-        Answer::Own => 0,
+        Answer::Unmapped => NO_ID as u64,
     }
 }
 
@@ -83,7 +84,6 @@ fn space(a: Answer, old: u64) -> u64
         Answer::Length(_) => old,
         Answer::Id(_) => old,
         Answer::Unmapped => old,
-        Answer::Own => old,
     }
 }
 
@@ -235,29 +235,15 @@ pub extern "C" fn oarhatchet_capset(
     code(credentials::capability_calls::drop(t, caller, permitted, effective))
 }
 
-// Whether own IDs are told, and not refused.
-fn told(a: Answer) -> bool
-    ensures { λ r. ⌜ r ≡ isOwn a ⌝ }
-{
-    match a {
-        Answer::Own => true,
-        Answer::Refused(_) => false,
-        Answer::Done => false,
-        Answer::Child(_) => false,
-        Answer::ChildIn(_, _) => false,
-        Answer::NewNamespace(_) => false,
-        Answer::Yes => false,
-        Answer::No => false,
-        Answer::Length(_) => false,
-        Answer::Id(_) => false,
-        Answer::Unmapped => false,
-    }
-}
+// The words of own IDs: three user IDs, three group IDs, and as many places as there may be groups.
+const OWN_WORDS: usize = 6 + MAX_GROUPS;
 
-// The words of own IDs.
-fn row(users: Ids, groups: Ids, list: GroupList) -> [u32; 22]
-    ensures { λ r. ⌜ r ≡ idsRow users groups list ⌝ }
+fn row(own: OwnIds) -> [u32; OWN_WORDS]
+    ensures { λ r. ⌜ r ≡ idsRow own ⌝ }
 {
+    let users = own.users;
+    let groups = own.groups;
+    let list = own.supplementary;
     let ids = list.ids;
     [
         users.real,
@@ -296,20 +282,21 @@ fn store(buffer: &mut [u32], words: &[u32])
 }
 
 #[no_mangle]
-pub extern "C" fn oarhatchet_getids(t: &Tables, caller: u64, ids: &mut [u32; 22]) -> u64
+pub extern "C" fn oarhatchet_getids(t: &Tables, caller: u64, ids: &mut [u32; OWN_WORDS]) -> u64
     ensures { λ r. ⌜ CodedIds r (now (ids .entry)) (now (ids .exit)) (quick ownIdsOf (tablesOf (now (t .entry))) caller) ⌝ }
 {
-    let own = credentials::own::own_ids(t, caller);
-    let answer = own.answer;
-    if told(answer) {
-        let users = own.users;
-        let groups = own.groups;
-        let list = own.supplementary;
-        let words = row(users, groups, list);
-        store(ids, &words);
-        return list.count;
+    let result = credentials::own::own_ids(t, caller);
+    let answer = result.answer;
+    match answer {
+        OwnAnswer::NotTold(e) => refusal(e),
+        OwnAnswer::Told => {
+            let own = result.ids;
+            let words = row(own);
+            store(ids, &words);
+            let list = own.supplementary;
+            list.count
+        }
     }
-    code(answer)
 }
 
 #[no_mangle]

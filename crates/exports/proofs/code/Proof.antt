@@ -18,7 +18,7 @@ code-spec =
     (λ c. search coding)  -- enum-known-a-6
     (λ c. search coding)  -- cast-result
     (λ c. search coding)  -- enum-told-4
-    (λ c. search coding)  -- enum-told-5
+    (λ c. search coding)  -- cast-result-2
     (λ c. search coding)  -- returns
     (λ c. search coding)  -- returns-2
     (λ c. search coding)  -- returns-3
@@ -28,5 +28,4 @@ code-spec =
     (λ c. search coding)  -- returns-7
     (λ c. search coding)  -- returns-8
     (λ c. search coding)  -- returns-9
-    (λ c. search coding)  -- returns-10
-    (λ c. search coding))  -- returns-11
+    (λ c. search coding))  -- returns-10
