@@ -21,8 +21,8 @@ use Rattle.claims.specs.Events.{Event, other, forked, cloned, unshared, 
 use Rattle.claims.specs.Words.{Held, isProcess, isNamespace, placeOf, parentOf, levelOf, writtenOf, writtenLines, standsFor, chosenOf, changedIds, held, heldOf, sameKind}
 use Rattle.claims.specs.Translation.{GoesOut, top, through, Under, here, deeper}
 use Rattle.claims.specs.TopLevel.{TopLevel, IsUnder, Stands, Has, Descends, Entered}
-use Rattle.claims.proofs.Levels.{out-is, passes}
 use Rattle.claims.proofs.Allowed.{Allowed, Valid, SoundAt, sound, Chosen, AllStand, Changes, Groups}
+use Rattle.claims.proofs.HistoryLevels.{stands-is, passes}
 use Rattle.claims.proofs.Sound.{same-kind}
 use Rattle.claims.proofs.Kept.{parent-kept, under-before, out-kept}
 
@@ -107,7 +107,7 @@ tell h s b (suc l) n d t =
 module _ (k : Kind) (h : List Event) (s : SoundAt h) (b n : ℕ) (u : IsUnder h b n) where
   taken : (x y : ℕ) → x < 2 ^ 32 → standsFor k h n x ≡ Id y → Stands k h b y
   taken x y small e =
-      passes (parentOf h) (writtenLines k h) (s .good k) b n x y u (out-is (parentOf h) (writtenLines k h) (s .good k) (levelOf h n) n x y small e)
+      passes h s k b n x y u (stands-is h s k n x y small e)
 
   -- one of the three of an ID change: the old one, or one that is mapped
   choice : (x old y : ℕ) → Chosen h k n x old → y ≡ orNoId (chosenOf k h n x old) → (y ≡ old) ⊎ Stands k h b y

@@ -2,6 +2,7 @@ pub mod Pairs
 pub mod Levels
 pub mod Sound
 pub mod Allowed
+pub mod HistoryLevels
 pub mod Kept
 pub mod Stays
 pub mod Carried

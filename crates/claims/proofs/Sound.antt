@@ -82,13 +82,13 @@ module _ (isP isN : ℕ → Bool) (place up level : ℕ → ℕ) (maps : Kind �
   pub deep : (k : Kind) (m x z : ℕ) → (m ≡ 0 → ⊥) → Pairs (orNone (maps k m)) x z → level (up m) < level m
   deep k m x z h p = by-test (isN m) (λ t. let e = s .levelled m t h in omega arith) (λ t. absurd (no-pairs k m x z t p))
 
-  -- process c goes to namespace n
-  pub moves : (c n : ℕ) → isN n ≡ true → Sound isP isN (λ (p : ℕ). cond (eqb p c) n (place p)) up level maps
-  moves c n t = record {
-    no-zero = s .no-zero;
+  -- other processes, or the same in other places
+  peopled : (isP′ : ℕ → Bool) (place′ : ℕ → ℕ) → isP′ 0 ≡ false → ((p : ℕ) → isP′ p ≡ true → isN (place′ p) ≡ true) → Sound isP′ isN place′ up level maps
+  peopled isP′ place′ z f = record {
+    no-zero = z;
     root = s .root;
     root-level = s .root-level;
-    placed = λ p e. cond-elim (λ (m : ℕ). isN m ≡ true) (eqb p c) t (s .placed p e);
+    placed = f;
     parented = s .parented;
     levelled = s .levelled;
     shallow = s .shallow;
@@ -99,22 +99,18 @@ module _ (isP isN : ℕ → Bool) (place up level : ℕ → ℕ) (maps : Kind �
     root-written = s .root-written;
   }
 
+  -- process c goes to namespace n
+  pub moves : (c n : ℕ) → isN n ≡ true → Sound isP isN (λ (p : ℕ). cond (eqb p c) n (place p)) up level maps
+  moves c n t =
+      peopled isP (λ (p : ℕ). cond (eqb p c) n (place p)) (s .no-zero)
+      (λ p e. cond-elim (λ (m : ℕ). isN m ≡ true) (eqb p c) t (s .placed p e))
+
   -- process q begins in namespace n
   pub begins : (q n : ℕ) → (q ≡ 0 → ⊥) → isN n ≡ true → Sound (λ (p : ℕ). cond (eqb p q) true (isP p)) isN (λ (p : ℕ). cond (eqb p q) n (place p)) up level maps
-  begins q n h t = record {
-    no-zero = let e : eqb 0 q ≡ false = ne-eqb 0 q (λ r. h (sym r)) in rw e (s .no-zero);
-    root = s .root;
-    root-level = s .root-level;
-    placed = λ p e. by-test (eqb p q) (λ r. rw r t) (λ r. rw r (s .placed p (sym (rw r) ∙ e)));
-    parented = s .parented;
-    levelled = s .levelled;
-    shallow = s .shallow;
-    good = s .good;
-    counted = s .counted;
-    covered = s .covered;
-    made = s .made;
-    root-written = s .root-written;
-  }
+  begins q n h t =
+      peopled (λ (p : ℕ). cond (eqb p q) true (isP p)) (λ (p : ℕ). cond (eqb p q) n (place p))
+      (let e : eqb 0 q ≡ false = ne-eqb 0 q (λ r. h (sym r)) in rw e (s .no-zero))
+      (λ p e. by-test (eqb p q) (λ r. rw r t) (λ r. rw r (s .placed p (sym (rw r) ∙ e))))
 
   -- namespace n is made, under namespace m
   module _ (n m : ℕ) (new : isN n ≡ false) (old : isN m ≡ true) (high : level m < 32) where

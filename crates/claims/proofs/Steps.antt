@@ -26,8 +26,7 @@ use Rattle.calls.specs.declared.Call.the-variants.{Fork, Clone, Unshare, Setns}
 use Rattle.prelude.proofs.Tests.{by-test, and-left}
 use Rattle.claims.specs.Events.{Event, other, forked, cloned, unshared, joined}
 use Rattle.claims.specs.Words.{Held, isProcess, isNamespace, placeOf, parentOf, levelOf, writtenOf, heldOf}
-use Rattle.claims.specs.Translation.{here}
-use Rattle.claims.specs.Translation.{deeper}
+use Rattle.claims.specs.Translation.{here, deeper}
 use Rattle.claims.specs.TopLevel.{IsUnder}
 use Rattle.claims.specs.History.{happenedBy}
 use Rattle.claims.specs.Agreement.{heldIn, writtenIn, stateFor, Agrees, Agreed}

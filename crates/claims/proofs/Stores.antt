@@ -48,19 +48,19 @@ read-lifted s Group q m User i h = refl
 read-lifted s Group q m Group i h = stored-or-kept (s .liftedGroups) q m noLift i h
 
 -- ---- what is live is in range, since a place past the end is free
+live-in-range : {A : Type 0} (live : A → Bool) (l : List A) (free : A) → live free ≡ false → (i : ℕ) → live (getD l i free) ≡ true → i < length l
+live-in-range live l free f i t =
+    by-test (ltb i (length l))
+    (λ r. ltb-true i (length l) r)
+    (λ r. absurd (true≢false (sym t ∙ ap live (List·getD-eq-default l free (ltb-false i (length l) r)) ∙ f)))
+
 pub process-in-range : (s : State) (i : ℕ) → processAt s i .live ≡ true → i < length (s .processes)
 unfolding processAt
-process-in-range s i t =
-    by-test (ltb i (length (s .processes)))
-    (λ r. ltb-true i (length (s .processes)) r)
-    (λ r. absurd (true≢false (sym t ∙ ap (λ (p : Process). p .live) (List·getD-eq-default (s .processes) freeProcess (ltb-false i (length (s .processes)) r)))))
+process-in-range s = live-in-range (λ (p : Process). p .live) (s .processes) freeProcess refl
 
 pub namespace-in-range : (s : State) (i : ℕ) → namespaceAt s i .live ≡ true → i < length (s .namespaces)
 unfolding namespaceAt
-namespace-in-range s i t =
-    by-test (ltb i (length (s .namespaces)))
-    (λ r. ltb-true i (length (s .namespaces)) r)
-    (λ r. absurd (true≢false (sym t ∙ ap (λ (n : Namespace). n .live) (List·getD-eq-default (s .namespaces) freeNamespace (ltb-false i (length (s .namespaces)) r)))))
+namespace-in-range s = live-in-range (λ (n : Namespace). n .live) (s .namespaces) freeNamespace refl
 
 -- ---- what the finds find
 

@@ -20,16 +20,15 @@ use Rattle.calls.specs.declared.Call.{Call}
 use Rattle.calls.specs.declared.Call.the-variants.{Fork, Clone, Unshare, Setns, WriteMap, WriteSetgroups, ReadMap, ReadSetgroups, SetIds, SetGroups, Capable, Drop, OwnIdsOf, Translate}
 use Rattle.calls.specs.Calls.{Request, answerBy}
 use Rattle.claims.specs.Events.{Event}
-use Rattle.claims.specs.Words.{placeOf, parentOf, levelOf, writtenLines}
+use Rattle.claims.specs.Words.{placeOf, parentOf, writtenLines}
 use Rattle.claims.specs.Translation.{Pairs, top, through, byLevels}
 use Rattle.claims.specs.TopLevel.{TopLevel, IsUnder, OutOf, Stands, OnParentSide}
 use Rattle.claims.specs.History.{Entry, entryOf, stepOf, runFrom, historyFrom, run, history, AllSmall, CallFits, Fits, AllFit, happenedBy, events}
 use Rattle.claims.specs.Holds.{Answers, TranslatesTo, TranslatesBy, Translates, Holds}
 use Rattle.claims.specs.Agreement.{Agreed}
 use Rattle.claims.proofs.Beside.{Beside}
-use Rattle.claims.proofs.Sound.{deep}
-use Rattle.claims.proofs.Levels.{out-is, is-out, back-is, is-back, out-once, back-once, one-to-one, out-back, back-out, passes}
 use Rattle.claims.proofs.Allowed.{Valid, SoundAt, sound}
+use Rattle.claims.proofs.HistoryLevels.{stands-is, is-stands, returns-is, is-returns, out-once, back-once, one-to-one, out-back, back-out, passes}
 use Rattle.claims.proofs.Stays.{stays, still-top}
 use Rattle.claims.proofs.Carried.{carried}
 use Rattle.claims.proofs.Stores.{space-named}
@@ -77,12 +76,12 @@ module _ (by : Translation) (s : State) (h : List Event) (d : SoundAt h) (u : by
   -- what the tables translate to is what the history does
   pub by-history : (k : Kind) (w : Way) (n x : ℕ) → x < 2 ^ 32 → (y : ℕ) → (turned by k w n x ≡ Id y) ↔ TranslatesTo h k w n x y
   by-history k Out n x small y = (
-    (λ e. out-is (parentOf h) (writtenLines k h) (d .good k) (levelOf h n) n x y small (sym ((λ i. u i .out k n x)) ∙ e)),
-    (λ o. (λ i. u i .out k n x) ∙ is-out (parentOf h) (writtenLines k h) (d .good k) (levelOf h) (deep _ _ _ _ _ _ d k) (levelOf h n) n x y (omega arith) o),
+    (λ e. stands-is h d k n x y small (sym ((λ i. u i .out k n x)) ∙ e)),
+    (λ o. (λ i. u i .out k n x) ∙ is-stands h d k n x y o),
   )
   by-history k Back n x small y = (
-    (λ e. back-is (parentOf h) (writtenLines k h) (d .good k) (levelOf h n) n x y small (sym ((λ i. u i .back k n x)) ∙ e)),
-    (λ o. (λ i. u i .back k n x) ∙ is-back (parentOf h) (writtenLines k h) (d .good k) (levelOf h) (deep _ _ _ _ _ _ d k) (levelOf h n) n x y (omega arith) o),
+    (λ e. returns-is h d k n x y small (sym ((λ i. u i .back k n x)) ∙ e)),
+    (λ o. (λ i. u i .back k n x) ∙ is-returns h d k n x y o),
   )
 
   translate-answers : (k : Kind) (w : Way) (c name x : ℕ) → x < 2 ^ 32 → Answers (translateReply by s k w c name x) (TranslatesTo h k w name x)
@@ -167,8 +166,8 @@ apart : (k : Kind) (h : List Event) → SoundAt h → (a b : ℕ) → TopLevel h
     → (m n y : ℕ) → IsUnder h a m → IsUnder h b n → Stands k h m y → Stands k h n y → ⊥
 apart k h d a b t t′ f m n y u v (x, o) (x′, o′) =
     f y
-    (on-parent-side k h a t y (passes (parentOf h) (writtenLines k h) (d .good k) a m x y u o))
-    (on-parent-side k h b t′ y (passes (parentOf h) (writtenLines k h) (d .good k) b n x′ y v o′))
+    (on-parent-side k h a t y (passes h d k a m x y u o))
+    (on-parent-side k h b t′ y (passes h d k b n x′ y v o′))
 
 -- demand 3. The IDs of the calls are 32-bit, as the interface's types have it; nothing else is asked of the list
 pub theorem : (rs : List Request) → AllFit rs → Holds rs
@@ -180,15 +179,12 @@ theorem rs f =
       tables-agree = r .agree;
       numbered = d .no-zero;
       translates = λ new old e q. some-translate new old e (subst AllTranslate q (r .all-translate));
-      looked-up = λ k n x y small. (
-        out-is (parentOf h) (writtenLines k h) (d .good k) (levelOf h n) n x y small,
-        is-out (parentOf h) (writtenLines k h) (d .good k) (levelOf h) (deep _ _ _ _ _ _ d k) (levelOf h n) n x y (omega arith),
-      );
-      one-to-one = λ k. one-to-one (parentOf h) (writtenLines k h) (d .good k) (levelOf h) (deep _ _ _ _ _ _ d k);
-      out-once = λ k. out-once (parentOf h) (writtenLines k h) (d .good k) (levelOf h) (deep _ _ _ _ _ _ d k);
-      back-once = λ k. back-once (parentOf h) (writtenLines k h) (d .good k) (levelOf h) (deep _ _ _ _ _ _ d k);
-      out-back = λ k. out-back (parentOf h) (writtenLines k h) (d .good k);
-      back-out = λ k. back-out (parentOf h) (writtenLines k h) (d .good k);
+      looked-up = λ k n x y small. (stands-is h d k n x y small, is-stands h d k n x y);
+      one-to-one = one-to-one h d;
+      out-once = out-once h d;
+      back-once = back-once h d;
+      out-back = out-back h d;
+      back-out = back-out h d;
       disjoint = λ k a b e t u g. apart k h d a b t u g;
       stays = λ new old q p b t l u.
           let v = subst Valid q (r .valid) in

@@ -28,9 +28,9 @@ use Rattle.claims.specs.LiftedMaps.{liftOf}
 use Rattle.claims.proofs.Beside.{Beside}
 use Rattle.claims.proofs.Pairs.{back-pairs, parent-small}
 use Rattle.claims.proofs.Agree.{lines-agree}
-use Rattle.claims.proofs.Sound.{deep}
 use Rattle.claims.proofs.Levels.{by-translated, out-is, is-out, back-is, is-back, out-back, back-out, back-small}
 use Rattle.claims.proofs.Allowed.{Allowed, Valid, SoundAt, sound}
+use Rattle.claims.proofs.HistoryLevels as History
 use Rattle.claims.proofs.Lifting.{Lifts, parented, written, lift-falls, out-lifted, lifted-out}
 
 -- ---- the lifted maps of every history
@@ -154,11 +154,11 @@ module _ (s : State) (h : List Event) (b : Beside s h) (d : SoundAt h) (o : Lift
         (λ y e.
         let r = out-is base lift (o .good k) 32 n x y small e in
         let q = lifted-out _ _ _ o k (levelOf h) falls (d .good k) (levelOf h n) n x y (omega arith) small r in
-        e ∙ sym (is-out (parentOf h) (writtenLines k h) (d .good k) (levelOf h) (deep _ _ _ _ _ _ d k) (levelOf h n) n x y (omega arith) q))
+        e ∙ sym (History.is-stands h d k n x y q))
         (λ e.
         by-translated (standsFor k h n x)
         (λ y f.
-        let r = out-is (parentOf h) (writtenLines k h) (d .good k) (levelOf h n) n x y small f in
+        let r = History.stands-is h d k n x y small f in
         let q = out-lifted _ _ _ o k (levelOf h) falls (d .good k) n x y small r in
         absurd (two-answers (sym e ∙ is-out base lift (o .good k) (levelOf h) (lift-falls _ _ _ o k (levelOf h) falls (d .good k)) 32 n x y (d .shallow n) q)))
         (λ f. e ∙ sym f))
@@ -170,13 +170,13 @@ module _ (s : State) (h : List Event) (b : Beside s h) (d : SoundAt h) (o : Lift
         let b = back-is base lift (o .good k) 32 n x y small e in
         let w = back-small base lift (o .good k) n x y b in
         let q = lifted-out _ _ _ o k (levelOf h) falls (d .good k) (levelOf h n) n y x (omega arith) (omega arith) (back-out base lift (o .good k) n y x b) in
-        e ∙ sym (is-back (parentOf h) (writtenLines k h) (d .good k) (levelOf h) (deep _ _ _ _ _ _ d k) (levelOf h n) n x y (omega arith) (out-back (parentOf h) (writtenLines k h) (d .good k) n y x q)))
+        e ∙ sym (History.is-returns h d k n x y (History.out-back h d k n y x q)))
         (λ e.
         by-translated (backBy (parentOf h) (writtenLines k h) (levelOf h n) n x)
         (λ y f.
-        let b = back-is (parentOf h) (writtenLines k h) (d .good k) (levelOf h n) n x y small f in
-        let w = back-small (parentOf h) (writtenLines k h) (d .good k) n x y b in
-        let q = out-lifted _ _ _ o k (levelOf h) falls (d .good k) n y x (omega arith) (back-out (parentOf h) (writtenLines k h) (d .good k) n y x b) in
+        let b = History.returns-is h d k n x y small f in
+        let w = History.back-small h d k n x y b in
+        let q = out-lifted _ _ _ o k (levelOf h) falls (d .good k) n y x (omega arith) (History.back-out h d k n y x b) in
         absurd (two-answers (sym e ∙ is-back base lift (o .good k) (levelOf h) (lift-falls _ _ _ o k (levelOf h) falls (d .good k)) 32 n x y (d .shallow n) (out-back base lift (o .good k) n y x q))))
         (λ f. e ∙ sym f))
 

@@ -175,14 +175,14 @@ fn caller_call(command: Command, caller: u64) -> Made {
 fn question_call(command: Command, caller: u64, second: u64, third: u64) -> Made {
     match command {
         Command::Capable => {
-            if third > 4294967295 {
+            if third > tokens::LARGEST_32 {
                 return Made::Nothing;
             }
             Made::Call(Call::Capable(caller, second, third as u32))
         }
         Command::Drop => Made::Call(Call::Drop(caller, second, third)),
         Command::Translate(kind, way) => {
-            if third > 4294967295 {
+            if third > tokens::LARGEST_32 {
                 return Made::Nothing;
             }
             Made::Call(Call::Translate(kind, way, caller, second, third as u32))
@@ -198,13 +198,13 @@ fn ids_call(command: Command, values: &[u64; 4]) -> Made {
     let real = values[1];
     let effective = values[2];
     let saved = values[3];
-    if real > 4294967295 {
+    if real > tokens::LARGEST_32 {
         return Made::Nothing;
     }
-    if effective > 4294967295 {
+    if effective > tokens::LARGEST_32 {
         return Made::Nothing;
     }
-    if saved > 4294967295 {
+    if saved > tokens::LARGEST_32 {
         return Made::Nothing;
     }
     let ids = Ids {

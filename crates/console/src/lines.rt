@@ -157,7 +157,7 @@ fn read_list(line: &[u8], from: usize, ids: &mut [u32]) -> List {
         let Next::Number(id, end) = tokens::next_token(line, at) else {
             break;
         };
-        if id > 4294967295 {
+        if id > tokens::LARGEST_32 {
             return List::Bad;
         }
         if n >= ids.len() {

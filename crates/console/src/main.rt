@@ -8,7 +8,13 @@ mod output;
 mod texts;
 mod tokens;
 
-// How many bytes of a line stand in its buffer, or 65,537 where the line is too long; and how much of the output buffer is in use.
+// The room for a line, for a text on it and for output.
+const ROOM: usize = 65536;
+
+// How many bytes a line that is too long counts as.
+const TOO_LONG: usize = ROOM + 1;
+
+// How many bytes of a line stand in its buffer, or TOO_LONG; and how much of the output buffer is in use.
 struct Progress {
     have: usize,
     at: usize,
@@ -20,7 +26,7 @@ fn lengthen(line: &mut [u8], n: usize, b: u8) -> usize {
         line[n] = b;
         n + 1
     } else {
-        65537
+        TOO_LONG
     }
 }
 
@@ -131,8 +137,8 @@ fn serve(t: &mut Tables, line: &mut [u8], scratch: &mut [u8], out: &mut [u8]) {
 fn main() {
     let mut t = [0u64; 18880];
     tables::initial::initial(&mut t);
-    let mut line = [0u8; 65536];
-    let mut scratch = [0u8; 65536];
-    let mut out = [0u8; 65536];
+    let mut line = [0u8; ROOM];
+    let mut scratch = [0u8; ROOM];
+    let mut out = [0u8; ROOM];
     serve(&mut t, &mut line, &mut scratch, &mut out);
 }

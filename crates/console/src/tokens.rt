@@ -2,6 +2,9 @@
 ghost use lib.ListN.{length};
 ghost use Prim.Native.Nat.{_≤_};
 
+// The largest number of 32 bits.
+pub const LARGEST_32: u64 = 4294967295;
+
 // The first place from `from` on that has no space, or the line's end.
 pub fn skip_spaces(line: &[u8], from: usize) -> usize
     ensures { λ r. ⌜ r ≤ length (now (line .entry)) ⌝ }

@@ -3,17 +3,18 @@ use mathlib.Core.Path.{_≡_, refl, sym, ap, _∙_}
 use mathlib.Core.Bool.{Bool, true, false, cond, _&&_, and-false}
 use mathlib.Core.List.{List, [], _∷_, _++_, append-assoc, append-nil}
 use mathlib.Core.Option.{Option, none, some}
-use Prim.Native.Nat.{ℕ, suc, _+_, _-_, _≤_, _<_, _^_}
+use Prim.Native.Nat.{ℕ, _+_, _-_, _≤_, _<_, _^_}
 use native.Mathlib.Numerals.{add-one}
 use native.Mathlib.Omega.{arith}
 use lib.Dec.{leb}
-use lib.ListN.{length, take, drop, set, replicate, length-append, length-drop, take-append-drop, drop-of-length-le}
-use lib.Seq.{length-take-le, drop-drop, take-all, take-suc-set, drop-set-lt}
+use lib.ListN.{length, take, drop, set, replicate, length-append, length-drop, drop-of-length-le}
+use lib.Seq.{length-take-le, drop-drop, take-all, take-suc-set}
 use mir.Val.{Fits}
 use mir.Syntax.{w64}
 use borrow.Author.Needs.{needs}
 use borrow.Author.Tests.{le-leb, lt-leb}
 use Rattle.prelude.specs.Lists.{consOf, allOf}
+use Rattle.prelude.proofs.Lists.{made-so-far, rest-empty}
 use Rattle.idmap.specs.declared.Line.{Line}
 use Rattle.idmap.specs.declared.text.LineRead.{LineRead}
 use Rattle.idmap.specs.declared.text.LineRead.the-variants.{Read, NoLine}
@@ -102,8 +103,7 @@ module _ (s : List ℕ) (ls : List Line) (n at : ℕ) (inv : textLines s ≡ lin
     pub lines-good : (t : Bool) → drop n ls ≡ replicate (maxLines - n) noLine → (n ≡ 0 → ⊥) → t ≡ goodOf (take n ls) → t ≡ true → _≡_ {A = MapText} (record { parsed = Lines n; lines = ls }) (mapText (mapLines s))
     unfolding mapLines mapText padded
     lines-good t d z g y =
-        let whole : take n ls ++ replicate (maxLines - n) noLine ≡ ls = rw d at (take-append-drop n ls) in
-        rw (tested, le-leb 1 n (omega arith), sym g ∙ y, length-take-le n ls (omega arith), whole)
+        rw (tested, le-leb 1 n (omega arith), sym g ∙ y, length-take-le n ls (omega arith), made-so-far ls n maxLines noLine d k small .1)
 
 -- a turn
 module _ (s : List ℕ) (ls : List Line) (n at : ℕ) (inv : textLines s ≡ linesFrom s ls n at) (r : LineRead) (f : r ≡ scanLine (take (length s - at) (drop at s))) (h : at < length s) where
@@ -128,11 +128,8 @@ module _ (s : List ℕ) (ls : List Line) (n at : ℕ) (inv : textLines s ≡ lin
     unfolding linesFrom
     line-next = (rw b at next) ∙ rw (prepended-next (take n ls) l (textLines (drop u (drop at s))), drop-drop u at s, add-one n, take-suc-set ls n l (omega arith))
 
-    pub rest-empty : drop n ls ≡ replicate (maxLines - n) noLine → drop (n + 1) (set ls n l) ≡ replicate (maxLines - (n + 1)) noLine
-    rest-empty d =
-        let z : maxLines - n ≡ suc (maxLines - (n + 1)) = omega arith in
-        let e : drop n ls ≡ replicate (suc (maxLines - (n + 1))) noLine = rw z at d in
-        drop-set-lt (n + 1) ls n l (omega arith) ∙ sym (drop-drop 1 n ls) ∙ ap (drop 1) e
+    pub rest-padded : drop n ls ≡ replicate (maxLines - n) noLine → drop (n + 1) (set ls n l) ≡ replicate (maxLines - (n + 1)) noLine
+    rest-padded d = rest-empty ls n maxLines noLine d l (omega arith)
 
 pub ruleset texts = (
   bad-is,
@@ -144,6 +141,6 @@ pub ruleset texts = (
   line-broken,
   line-fits,
   line-next,
-  rest-empty,
+  rest-padded,
   needs,
 )

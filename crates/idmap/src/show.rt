@@ -13,14 +13,14 @@ pub const LINE_BYTES: usize = 33;
 fn column(v: u32) -> u8
     ensures { λ r. ⌜ r ≡ columnOf v ⌝ }
 {
-    if v == 0 { 32 } else { (48 + v % 10) as u8 }
+    if v == 0 { b' ' } else { (48 + v % 10) as u8 }
 }
 
 // The number in 10 columns, filled from the right.
 fn number_text(n: u32) -> [u8; 10]
     ensures { λ r. ⌜ r ≡ numberText n ⌝ }
 {
-    let mut text: [u8; 10] = [32; 10];
+    let mut text: [u8; 10] = [b' '; 10];
     text[9] = (48 + n % 10) as u8;
     let mut v = n / 10;
     let mut k: usize = 9;
@@ -50,7 +50,7 @@ pub fn line_text(l: Line) -> [u8; LINE_BYTES]
         a[7],
         a[8],
         a[9],
-        32,
+        b' ',
         b[0],
         b[1],
         b[2],
@@ -61,7 +61,7 @@ pub fn line_text(l: Line) -> [u8; LINE_BYTES]
         b[7],
         b[8],
         b[9],
-        32,
+        b' ',
         c[0],
         c[1],
         c[2],
@@ -72,7 +72,7 @@ pub fn line_text(l: Line) -> [u8; LINE_BYTES]
         c[7],
         c[8],
         c[9],
-        10,
+        b'\n',
     ]
 }
 

@@ -37,13 +37,13 @@ enum LineRead {
 fn is_blank(c: u8) -> bool
     ensures { λ r. ⌜ r ≡ isBlank c ⌝ }
 {
-    c == 32 || c == 9
+    c == b' ' || c == b'\t'
 }
 
 fn is_digit(c: u8) -> bool
     ensures { λ r. ⌜ r ≡ isDigit c ⌝ }
 {
-    48 <= c && c <= 57
+    b'0' <= c && c <= b'9'
 }
 
 // Where the blanks from `at` on end.
@@ -83,7 +83,7 @@ fn digits(s: &[u8], at: usize) -> NumberRead
         if !is_digit(c) {
             return made(at, i, v);
         }
-        v = v * 10 + (c - 48) as u64;
+        v = v * 10 + (c - b'0') as u64;
         if (NO_ID as u64) < v {
             return NumberRead::NoNumber;
         }
@@ -105,7 +105,7 @@ fn line_end(s: &[u8], e: usize, l: Line) -> LineRead
     ensures { λ r. ⌜ r ≡ lineEnd (now (s .entry)) e l ⌝ }
 {
     if e < s.len() {
-        if s[e] == 10 {
+        if s[e] == b'\n' {
             LineRead::Read(l, e + 1)
         } else {
             LineRead::NoLine

@@ -8,11 +8,11 @@ use native.Mathlib.Numerals.{add-one}
 use native.Mathlib.Omega.{arith}
 use lib.Dec.{eqb, leb, ltb}
 use lib.ListN.{length, getD, set, take, drop, length-append}
-use lib.Seq.{take-suc, take-suc-set, take-all, length-take-le}
+use lib.Seq.{take-suc, take-suc-set, length-take-le}
 use borrow.Author.Needs.{needs}
 use borrow.Author.Tests.{eq-eqb, ne-eqb, le-leb, lt-leb, ltb-true, ltb-false}
 use Rattle.prelude.proofs.Tests.{by-test}
-use Rattle.prelude.proofs.Lists.{left-step, left-none}
+use Rattle.prelude.proofs.Lists.{left-step, left-none, take-min}
 use Rattle.prelude.proofs.Made.{some-none}
 use Rattle.idmap.specs.declared.Line.{Line}
 use Rattle.idmap.specs.Line.{noLine, more, lineWords, lineAt, linesIn}
@@ -104,10 +104,7 @@ module _ (above lines : List Line) (count n i : ℕ) (ws : List ℕ) (inv : adde
 
 -- ---- put_unlifted: the first i lines are in their places
 front-all : (lines : List Line) (count : ℕ) → length lines ≡ maxLines → take (min count maxLines) lines ≡ take count lines
-front-all lines count long =
-    by-test (ltb count maxLines)
-    (λ t. let h = ltb-true count maxLines t in let e : min count maxLines ≡ count = omega arith in rw e)
-    (λ t. let h = ltb-false count maxLines t in take-all (min count maxLines) lines (omega arith) ∙ sym (take-all count lines (omega arith)))
+front-all lines count long = ap (λ (k : ℕ). take (min count k) lines) (sym long) ∙ sym (take-min count lines)
 
 module _ (lines : List Line) (count i : ℕ) (ws : List ℕ) (long : length lines ≡ maxLines) (front : take i (placesIn ws) ≡ take i lines) where
   pub written-next : (end : ℕ) (l : Line) (ws′ : List ℕ) → end ≡ min count maxLines → i < end → l ≡ getD lines i noLine → length (placesIn ws) ≡ maxPieces → placesIn ws′ ≡ set (placesIn ws) i l → take (i + 1) (placesIn ws′) ≡ take (i + 1) lines

@@ -95,14 +95,13 @@ module _ (ws : List ℕ) (long : length ws ≡ liftedWidth) where
   unfolding part
   places = lines-length maxPieces (take pieceWords (drop headWords ws)) (simp (length-take, length-drop) (omega arith))
 
--- the line of three words of 32 bits
-line-round : (l : Line) → l .inside < 2 ^ 32 → l .parent < 2 ^ 32 → l .count < 2 ^ 32 → lineOfWords (l .inside) (l .parent) (l .count) ≡ l
-line-round l a b c = rw (mod-eq-of-lt a, mod-eq-of-lt b, mod-eq-of-lt c)
-
-module _ (ws : List ℕ) (long : length ws ≡ liftedWidth) where
   words-are : part pieceWords headWords ws ≡ drop headWords ws
   unfolding part
   words-are = take-all pieceWords (drop headWords ws) (simp length-drop (omega arith))
+
+-- the line of three words of 32 bits
+line-round : (l : Line) → l .inside < 2 ^ 32 → l .parent < 2 ^ 32 → l .count < 2 ^ 32 → lineOfWords (l .inside) (l .parent) (l .count) ≡ l
+line-round l a b c = rw (mod-eq-of-lt a, mod-eq-of-lt b, mod-eq-of-lt c)
 
 module _ (ws : List ℕ) (long : length ws ≡ liftedWidth) (n : ℕ) where
   stored : n < maxPieces → (w : List ℕ) (a b c : ℕ) → length w ≡ liftedWidth → drop headWords (take (headWords + n * lineWords) w ++ (a ∷ b ∷ c ∷ []) ++ drop (headWords + n * lineWords + lineWords) w) ≡ take (n * lineWords) (drop headWords w) ++ (a ∷ b ∷ c ∷ []) ++ drop (n * lineWords + lineWords) (drop headWords w)

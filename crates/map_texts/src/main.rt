@@ -11,11 +11,11 @@ fn print(text: &[u8]) {
 
 // Writes a byte of a text: a newline, a tab and what is not printable as an escape.
 fn print_byte(c: u8) {
-    if c == 10 {
+    if c == b'\n' {
         print(b"\\n");
         return;
     }
-    if c == 9 {
+    if c == b'\t' {
         print(b"\\t");
         return;
     }

@@ -3,8 +3,7 @@ use mathlib.Core.Path.{_≡_}
 use Prim.Native.Nat.{_<_, _^_}
 use Rattle.idmap.specs.Line.{less, linesIn}
 use Rattle.idmap.specs.Cover.{coveredOf}
-use Rattle.idmap.proofs.Covers.{coveredTo}
-use Rattle.idmap.proofs.Covers.{covers}
+use Rattle.idmap.proofs.Covers.{coveredTo, covers}
 use Rattle.idmap.proofs.cover.covered.Statement.{statement}
 use Rattle.idmap.proofs.cover.covered.Tie as tie
 

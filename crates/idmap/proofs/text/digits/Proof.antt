@@ -4,8 +4,7 @@ use Prim.Native.Nat.{_≤_, _-_}
 use lib.ListN.{length}
 use Rattle.idmap.specs.Good.{noId}
 use Rattle.idmap.specs.Scan.{numberAt}
-use Rattle.idmap.proofs.Scans.{numberFrom}
-use Rattle.idmap.proofs.Scans.{scans}
+use Rattle.idmap.proofs.Scans.{numberFrom, scans}
 use Rattle.idmap.proofs.text.digits.Statement.{statement}
 use Rattle.idmap.proofs.text.digits.Tie as tie
 

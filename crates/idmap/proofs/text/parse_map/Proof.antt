@@ -7,7 +7,7 @@ use lib.ListN.{length, drop, replicate}
 use Rattle.idmap.specs.Line.{noLine}
 use Rattle.idmap.specs.Good.{maxLines}
 use Rattle.idmap.specs.Text.{textLines}
-use Rattle.idmap.proofs.Texts.{linesFrom, line-fits, line-next, rest-empty, texts}
+use Rattle.idmap.proofs.Texts.{linesFrom, line-fits, line-next, rest-padded, texts}
 use Rattle.idmap.proofs.text.parse_map.Statement.{statement}
 use Rattle.idmap.proofs.text.parse_map.Tie as tie
 
@@ -34,7 +34,7 @@ loop-again c =
     let told = c .before .l .given .1 in (
       search needs,
       search needs,
-      rest-empty _ _ _ _ (inv .3) _ read (turn .loop-test .taken) (inv .0) open-place (inv .1) _ _ told (inv .2),
+      rest-padded _ _ _ _ (inv .3) _ read (turn .loop-test .taken) (inv .0) open-place (inv .1) _ _ told (inv .2),
       line-next _ _ _ _ (inv .3) _ read (turn .loop-test .taken) (inv .0) open-place (inv .1) _ _ told,
     )
 

@@ -3,8 +3,7 @@ use mathlib.Core.Path.{_≡_}
 use Prim.Native.Nat.{_≤_, _-_}
 use lib.ListN.{length}
 use Rattle.lifted_map.specs.Adding.{piecesIn}
-use Rattle.lifted_map.proofs.Adding.{addedFrom}
-use Rattle.lifted_map.proofs.Adding.{adding}
+use Rattle.lifted_map.proofs.Adding.{addedFrom, adding}
 use Rattle.lifted_map.proofs.lift.add_pieces.Statement.{statement}
 use Rattle.lifted_map.proofs.lift.add_pieces.Tie as tie
 

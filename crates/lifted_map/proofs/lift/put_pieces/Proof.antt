@@ -7,8 +7,7 @@ use lib.ListN.{take, drop}
 use Rattle.idmap.specs.Good.{maxLines}
 use Rattle.idmap.specs.Line.{linesIn}
 use Rattle.lifted_map.specs.Adding.{piecesIn}
-use Rattle.lifted_map.proofs.Adding.{addedLines}
-use Rattle.lifted_map.proofs.Adding.{adding}
+use Rattle.lifted_map.proofs.Adding.{addedLines, adding}
 use Rattle.lifted_map.proofs.lift.put_pieces.Statement.{statement}
 use Rattle.lifted_map.proofs.lift.put_pieces.Tie as tie
 
