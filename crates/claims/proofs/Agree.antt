@@ -19,7 +19,7 @@ use Rattle.records.specs.declared.IdMap.{IdMap}
 use Rattle.records.specs.Records.{mapIn, linesIf, linesOf}
 use Rattle.tables.specs.declared.find.Found.the-variants.{At}
 use Rattle.tables.specs.Tables.{State, processAt, namespaceAt, putProcess, putNamespace}
-use Rattle.tables.specs.Find.{processNamed}
+use Rattle.tables.specs.Find.{processNamed, callerNamed}
 use Rattle.prelude.proofs.Tests.{by-test}
 use Rattle.claims.specs.Events.{Event}
 use Rattle.claims.specs.Words.{Held, isProcess, placeOf, orNone, writtenLines, heldOf}
@@ -123,7 +123,7 @@ pub lines-agree : (s : State) (h : List Event) → Agreed s h → (k : Kind) (n 
 lines-agree s h a k n = sym (lines-of (mapIn k (namespaceAt s n))) ∙ ap orNone (a .namespace-map k n)
 
 -- ---- the caller of a call
-module _ (s : State) (h : List Event) (a : Agreed s h) (c i : ℕ) (e : processNamed s c ≡ At i) where
+module _ (s : State) (h : List Event) (a : Agreed s h) (c i : ℕ) (e : callerNamed s c ≡ At i) where
   pub caller-is : c ≡ suc i
   caller-is = named s c i e .0
 

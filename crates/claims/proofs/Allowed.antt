@@ -9,6 +9,7 @@ use native.Mathlib.Omega.{arith}
 use lib.Dec.{eqb}
 use lib.ListN.{length, getD}
 use borrow.Author.Tests.{eq-eqb, eqb-true}
+use Rattle.records.specs.Records.{maxGroups}
 use Rattle.idmap.specs.declared.Translated.the-variants.{Id}
 use Rattle.idmap.specs.Line.{noLine}
 use Rattle.idmap.specs.Cover.{HasLine}
@@ -17,7 +18,7 @@ use Rattle.idmap.specs.Good.{goodOf, boundedOf, fitsOf, allApart}
 use Rattle.records.specs.declared.Kind.{Kind}
 use Rattle.records.specs.declared.Kind.the-variants.{Group}
 use Rattle.records.specs.declared.Ids.{Ids}
-use Rattle.tables.specs.Tables.{fixedLine}
+use Rattle.tables.specs.Tables.{fixedLine, maxLevel}
 use Rattle.prelude.proofs.Tests.{by-test}
 use Rattle.prelude.proofs.Made.{some-none}
 use Rattle.claims.specs.Events.{Event, other, forked, cloned, unshared, joined, mapped, changed, grouped}
@@ -35,7 +36,7 @@ pub record NewProcess (h : List Event) (c q : ℕ) : Type 0 where
 pub record NewNamespace (h : List Event) (c n : ℕ) : Type 0 where
   pub caller : isProcess h c ≡ true
   pub unused : isNamespace h n ≡ false
-  pub room : levelOf h (placeOf h c) < 32
+  pub room : levelOf h (placeOf h c) < maxLevel
 
 -- a process joins a namespace under its own
 pub record Joins (h : List Event) (c n : ℕ) : Type 0 where
@@ -69,7 +70,7 @@ AllStand h n (x ∷ l) = (x < 2 ^ 32) × ((y : ℕ) × (standsFor Group h n x �
 
 pub record Groups (h : List Event) (c : ℕ) (list : List ℕ) : Type 0 where
   pub caller : isProcess h c ≡ true
-  pub few : length list ≤ 16
+  pub few : length list ≤ maxGroups
   pub each : AllStand h (placeOf h c) list
 
 abbrev pub Allowed : List Event → Event → Type 0

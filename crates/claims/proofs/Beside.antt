@@ -11,7 +11,7 @@ use Rattle.records.specs.declared.Kind.{Kind}
 use Rattle.records.specs.declared.Kind.the-variants.{User, Group}
 use Rattle.records.specs.declared.Process.{Process}
 use Rattle.records.specs.declared.Namespace.{Namespace}
-use Rattle.tables.specs.Tables.{State, liftedMaps, noLift, liftedAt, putLiftedMap, clearLiftedMaps}
+use Rattle.tables.specs.Tables.{State, liftedMaps, noLift, liftedAt, putLiftedMap, clearLiftedMaps, namespacePlaces}
 use Rattle.prelude.proofs.Tests.{by-test, and-right}
 use Rattle.claims.specs.Events.{Event}
 use Rattle.claims.specs.Words.{sameKind}
@@ -20,7 +20,7 @@ use Rattle.claims.proofs.Stores.{read-lifted}
 
 -- each namespace has its lifted maps of both kinds
 pub record LiftedAs (s : State) (lifts : Kind → ℕ → Lifted) : Type 0 where
-  pub places : (k : Kind) → length (liftedMaps k s) ≡ 64
+  pub places : (k : Kind) → length (liftedMaps k s) ≡ namespacePlaces
   pub lifted : (k : Kind) (n : ℕ) → liftedAt s k n ≡ lifts k n
 
 abbrev pub Beside : State → List Event → Type 0
@@ -33,7 +33,7 @@ unfolding liftedAt
 keeps-lifted s lifts ps ns b = record { places = b .places; lifted = b .lifted }
 
 -- lifted map m of kind j is stored at place q
-module _ (s : State) (lifts : Kind → ℕ → Lifted) (b : LiftedAs s lifts) (j : Kind) (q : ℕ) (m : Lifted) (h : q < 64) where
+module _ (s : State) (lifts : Kind → ℕ → Lifted) (b : LiftedAs s lifts) (j : Kind) (q : ℕ) (m : Lifted) (h : q < namespacePlaces) where
   length-after : (k j : Kind) → length (liftedMaps k (putLiftedMap s j q m)) ≡ length (liftedMaps k s)
   length-after User User = length-set (s .liftedUsers) q m
   length-after User Group = refl
@@ -47,7 +47,7 @@ module _ (s : State) (lifts : Kind → ℕ → Lifted) (b : LiftedAs s lifts) (j
   }
 
 -- a place where there was none is cleared
-pub clears-lifted : (s : State) (lifts : Kind → ℕ → Lifted) (q : ℕ) → q < 64 → ((k : Kind) → lifts k q ≡ noLift) → LiftedAs s lifts → LiftedAs (clearLiftedMaps s q) lifts
+pub clears-lifted : (s : State) (lifts : Kind → ℕ → Lifted) (q : ℕ) → q < namespacePlaces → ((k : Kind) → lifts k q ≡ noLift) → LiftedAs s lifts → LiftedAs (clearLiftedMaps s q) lifts
 clears-lifted s lifts q h e b = none-at (putLiftedMap s User q noLift) Group (none-at s User b)
   where
     none-at : (s : State) (j : Kind) → LiftedAs s lifts → LiftedAs (putLiftedMap s j q noLift) lifts

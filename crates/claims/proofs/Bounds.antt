@@ -21,7 +21,7 @@ use Rattle.records.specs.declared.Kind.{Kind}
 use Rattle.records.specs.declared.MapState.the-variants.{Unwritten, Written}
 use Rattle.records.specs.declared.Process.{Process}
 use Rattle.records.specs.Records.{mapIn}
-use Rattle.tables.specs.Tables.{State, processAt, namespaceAt}
+use Rattle.tables.specs.Tables.{State, processAt, namespaceAt, maxLevel}
 use Rattle.hierarchy.specs.Walks.{heightOf, ownedBy, holdsIn, capableIn}
 use Rattle.credentials.specs.declared.translate.Way.the-variants.{Out, Back}
 use Rattle.calls.specs.Calls.{Request}
@@ -68,7 +68,7 @@ module _ (s : State) (h : List Event) (a : Agreed s h) (d : SoundAt h) where
   parent-is-live : (n : ℕ) → namespaceAt s n .live ≡ true → namespaceAt s (namespaceAt s n .parent) .live ≡ true
   parent-is-live n t = a .namespace-live (namespaceAt s n .parent) ∙ ap (isNamespace h) (a .namespace-parent n) ∙ d .parented n (sym (a .namespace-live n) ∙ t)
 
-  level-most : (n : ℕ) → namespaceAt s n .level ≤ 32
+  level-most : (n : ℕ) → namespaceAt s n .level ≤ maxLevel
   level-most n = let b = d .shallow n in let e = a .namespace-level n in omega arith
 
   height-is : (n : ℕ) → heightOf s n ≡ namespaceAt s n .level

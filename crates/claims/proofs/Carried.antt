@@ -9,6 +9,7 @@ use native.Mathlib.Omega.{arith}
 use lib.Dec.{eqb}
 use lib.ListN.{length, length-map}
 use borrow.Author.Tests.{eq-eqb, eqb-true, eqb-false}
+use Rattle.records.specs.Records.{maxGroups}
 use Rattle.idmap.specs.declared.Line.{Line}
 use Rattle.idmap.specs.declared.Translated.the-variants.{Id}
 use Rattle.idmap.specs.Good.{noId}
@@ -282,14 +283,14 @@ held-small Group (grouped c list ∷ h) v p y i =
     (after-groups h (sound h (v .1)) (placeOf h c) c list (v .0) (here refl) y (rw t at i)))
     (λ t. held-small Group h (v .1) p y (rw t at i))
 
-pub few-groups : (h : List Event) → Valid h → (p : ℕ) → length (heldOf Group h p .supplementary) ≤ 16
+pub few-groups : (h : List Event) → Valid h → (p : ℕ) → length (heldOf Group h p .supplementary) ≤ maxGroups
 unfolding Valid heldOf
 few-groups [] v p = omega arith
 few-groups (other ∷ h) v p = few-groups h (v .1) p
-few-groups (forked c q ∷ h) v p = cond-elim (λ (m : Held). length (m .supplementary) ≤ 16) (eqb p q) (few-groups h (v .1) c) (few-groups h (v .1) p)
-few-groups (cloned c q n ∷ h) v p = cond-elim (λ (m : Held). length (m .supplementary) ≤ 16) (eqb p q) (few-groups h (v .1) c) (few-groups h (v .1) p)
+few-groups (forked c q ∷ h) v p = cond-elim (λ (m : Held). length (m .supplementary) ≤ maxGroups) (eqb p q) (few-groups h (v .1) c) (few-groups h (v .1) p)
+few-groups (cloned c q n ∷ h) v p = cond-elim (λ (m : Held). length (m .supplementary) ≤ maxGroups) (eqb p q) (few-groups h (v .1) c) (few-groups h (v .1) p)
 few-groups (unshared c n ∷ h) v p = few-groups h (v .1) p
 few-groups (joined c n ∷ h) v p = few-groups h (v .1) p
 few-groups (mapped k q text ∷ h) v p = few-groups h (v .1) p
-few-groups (changed k c new ∷ h) v p = cond-elim (λ (m : Held). length (m .supplementary) ≤ 16) (sameKind Group k && eqb p c) (few-groups h (v .1) c) (few-groups h (v .1) p)
-few-groups (grouped c list ∷ h) v p = cond-elim (λ (m : Held). length (m .supplementary) ≤ 16) (eqb p c) (simp length-map (v .0 .few)) (few-groups h (v .1) p)
+few-groups (changed k c new ∷ h) v p = cond-elim (λ (m : Held). length (m .supplementary) ≤ maxGroups) (sameKind Group k && eqb p c) (few-groups h (v .1) c) (few-groups h (v .1) p)
+few-groups (grouped c list ∷ h) v p = cond-elim (λ (m : Held). length (m .supplementary) ≤ maxGroups) (eqb p c) (simp length-map (v .0 .few)) (few-groups h (v .1) p)

@@ -8,21 +8,22 @@ use mathlib.Core.Logic.{inl, inr}
 use mathlib.Core.Option.{Option, none, some}
 use lib.Dec.{eqb, leb, ltb}
 use lib.ListN.{length}
-use Rattle.capability.specs.Sets.{isWithin}
+use Rattle.claims.proofs.Stores.{process-named}
+use Rattle.capability.specs.Sets.{isWithin, capSysAdmin, capSetgid}
 use Rattle.idmap.specs.declared.Line.{Line}
 use Rattle.idmap.specs.declared.Translated.{Translated}
 use Rattle.idmap.specs.declared.Translated.the-variants.{Id, Unmapped}
-use Rattle.idmap.specs.Text.{mapLines}
+use Rattle.idmap.specs.Text.{mapLines, maxTextBytes}
 use Rattle.records.specs.declared.Kind.{Kind}
 use Rattle.records.specs.declared.Ids.{Ids}
-use Rattle.records.specs.Records.{idsIn, mapIn, setIdOf, isWritten, linesOf}
+use Rattle.records.specs.Records.{idsIn, mapIn, setIdOf, isWritten, linesOf, maxGroups}
 use Rattle.tables.specs.declared.find.Found.{Found}
 use Rattle.tables.specs.declared.find.Found.the-variants.{At, Nothing}
-use Rattle.tables.specs.Tables.{State, processAt, namespaceAt, putProcess, putNamespace}
-use Rattle.tables.specs.Find.{processNamed, namespaceNamed, freeProcessPlace, freeNamespacePlace}
+use Rattle.tables.specs.Tables.{State, processAt, namespaceAt, putProcess, putNamespace, maxLevel}
+use Rattle.tables.specs.Find.{processNamed, namespaceNamed, freeProcessPlace, freeNamespacePlace, callerNamed, processNumber}
 use Rattle.tables.specs.Reply.{done, child, childIn, newNamespace, Outcome, refuse, onFound}
 use Rattle.hierarchy.specs.Walks.{Translation, capableIn}
-use Rattle.process.specs.Calls.{sysAdmin, forkOf, knowsItself, entered, makesNamespace, withChild, cloneOf, unshareOf, setnsOf}
+use Rattle.process.specs.Calls.{forkOf, knowsItself, entered, makesNamespace, withChild, cloneOf, unshareOf, setnsOf}
 use Rattle.mapping.specs.Calls.{isNear, mayMap, allCovered, mappedTables, thenLines, writeLinesTo, writeMapTo, writeMapOf, withDeny, settingIn, thenSetting, writeSetgroupsTo, writeSetgroupsOf}
 use Rattle.credentials.specs.Calls.{chosen, thenThree, withIds, mayTake, setIdsOf, groupList, withList, thenList, kernelGroups, setGroupsOf, withSets, dropOf}
 use Rattle.claims.specs.TopLevel.{Has}
@@ -88,24 +89,24 @@ is-87 = inr (inr (inr (inr (inr (inr (inl refl))))))
 -- ---- the calls. P is what is to hold of an outcome, and no says it of every refusal
 module _ (by : Translation) (s : State) (P : Outcome → Type 0) (no : (e : ℕ) → Has e refusalNumbers → P (refuse s e)) where
   pub fork-case : (c : ℕ)
-      → ((i q : ℕ) → processNamed s c ≡ At i → freeProcessPlace s ≡ At q → P (record { reply = child (q + 1); tables = putProcess s q (processAt s i) }))
+      → ((i q : ℕ) → callerNamed s c ≡ At i → freeProcessPlace s ≡ At q → P (record { reply = child (processNumber q); tables = putProcess s q (processAt s i) }))
       → P (forkOf s c)
   unfolding forkOf
-  fork-case c f = found-case P (processNamed s c) (no 3 is-3) (λ i e. found-case P (freeProcessPlace s) (no 11 is-11) (λ q g. f i q e g))
+  fork-case c f = found-case P (callerNamed s c) (no 3 is-3) (λ i e. found-case P (freeProcessPlace s) (no 11 is-11) (λ q g. f i q e g))
 
   abbrev Room : ℕ → ℕ → ℕ → Type 0
-  Room c p n = (processNamed s c ≡ At p) × (freeNamespacePlace s ≡ At n) × (leb 32 (namespaceAt s (processAt s p .namespace) .level) ≡ false)
+  Room c p n = (callerNamed s c ≡ At p) × (freeNamespacePlace s ≡ At n) × (leb maxLevel (namespaceAt s (processAt s p .namespace) .level) ≡ false)
 
   makes-case : (c : ℕ) (next : ℕ → ℕ → Outcome) → ((p n : ℕ) → Room c p n → P (next p n)) → P (makesNamespace by s c next)
   makes-case c next f =
-      found-case P (processNamed s c) (no 3 is-3) (λ p e.
-      test-case P (leb 32 (namespaceAt s (processAt s p .namespace) .level)) (λ r. no 87 is-87) (λ r.
+      found-case P (callerNamed s c) (no 3 is-3) (λ p e.
+      test-case P (leb maxLevel (namespaceAt s (processAt s p .namespace) .level)) (λ r. no 87 is-87) (λ r.
       test-case P (knowsItself by (processAt s p))
       (λ t. found-case P (freeNamespacePlace s) (no 28 is-28) (λ n g. f p n (e, g, r)))
       (λ t. no 1 is-1)))
 
   pub clone-case : (c : ℕ)
-      → ((p n q : ℕ) → Room c p n → freeProcessPlace s ≡ At q → P (record { reply = childIn (q + 1) n; tables = putProcess (withChild s p n) q (entered (processAt s p) n) }))
+      → ((p n q : ℕ) → Room c p n → freeProcessPlace s ≡ At q → P (record { reply = childIn (processNumber q) n; tables = putProcess (withChild s p n) q (entered (processAt s p) n) }))
       → P (cloneOf by s c)
   unfolding cloneOf
   clone-case c f = makes-case c _ (λ p n r. found-case P (freeProcessPlace s) (no 11 is-11) (λ q g. f p n q r g))
@@ -117,59 +118,59 @@ module _ (by : Translation) (s : State) (P : Outcome → Type 0) (no : (e : ℕ)
   unshare-case c f = makes-case c _ f
 
   pub setns-case : (c name : ℕ)
-      → ((p n : ℕ) → processNamed s c ≡ At p → namespaceNamed s name ≡ At n → capableIn s (processAt s p) n sysAdmin ≡ true
+      → ((p n : ℕ) → callerNamed s c ≡ At p → namespaceNamed s p name ≡ At n → capableIn s (processAt s p) n capSysAdmin ≡ true
       → P (record { reply = done; tables = putProcess s p (entered (processAt s p) n) }))
       → P (setnsOf s c name)
   unfolding setnsOf
   setns-case c name f =
-      found-case P (processNamed s c) (no 3 is-3) (λ p e.
-      found-case P (namespaceNamed s name) (no 3 is-3) (λ n g.
+      found-case P (callerNamed s c) (no 3 is-3) (λ p e.
+      found-case P (namespaceNamed s p name) (no 3 is-3) (λ n g.
       test-case P (eqb (processAt s p .namespace) n) (λ t. no 22 is-22) (λ t.
-      test-case P (capableIn s (processAt s p) n sysAdmin) (λ u. f p n e g u) (λ u. no 1 is-1))))
+      test-case P (capableIn s (processAt s p) n capSysAdmin) (λ u. f p n e g u) (λ u. no 1 is-1))))
 
   pub write-map-case : (k : Kind) (c name : ℕ) (text : List ℕ)
-      → ((p : ℕ) (ls : List Line) → processNamed s name ≡ At p → isWritten (mapIn k (namespaceAt s (processAt s p .namespace)) .state) ≡ false → mapLines text ≡ some ls
+      → ((p : ℕ) (ls : List Line) → callerNamed s name ≡ At p → isWritten (mapIn k (namespaceAt s (processAt s p .namespace)) .state) ≡ false → mapLines text ≡ some ls
       → allCovered (linesOf (mapIn k (namespaceAt s (namespaceAt s (processAt s p .namespace) .parent)))) ls ≡ true
       → P (record { reply = done; tables = mappedTables s k (processAt s p .namespace) ls }))
       → P (writeMapOf by s k c name text)
   unfolding writeMapOf writeMapTo writeLinesTo
   write-map-case k c name text f =
-      found-case P (processNamed s c) (no 3 is-3) (λ w e.
-      found-case P (processNamed s name) (no 3 is-3) (λ p g.
+      found-case P (callerNamed s c) (no 3 is-3) (λ w e.
+      found-case P (processNamed s w name) (no 3 is-3) (λ p g.
       let n = processAt s p .namespace in
       test-case P (eqb n 0) (λ t. no 1 is-1) (λ t.
-      test-case P (isNear s (processAt s w) n) (λ u.
+      test-case P (isNear (processAt s w) n (namespaceAt s n)) (λ u.
       test-case P (eqb (length text) 0) (λ t. no 22 is-22) (λ t.
-      test-case P (ltb 4095 (length text)) (λ t. no 22 is-22) (λ t.
+      test-case P (ltb maxTextBytes (length text)) (λ t. no 22 is-22) (λ t.
       test-case P (isWritten (mapIn k (namespaceAt s n) .state)) (λ t. no 1 is-1) (λ v.
       test-case P (capableIn s (processAt s w) n (setIdOf k))
       (λ t.
       lines-case P (mapLines text) (no 22 is-22) (λ ls m.
-      test-case P (mayMap by s k (processAt s w) n ls)
+      test-case P (mayMap by s k (processAt s w) (namespaceAt s n) ls)
       (λ t.
-      test-case P (allCovered (linesOf (mapIn k (namespaceAt s (namespaceAt s n .parent)))) ls) (λ u. f p ls g v m u) (λ u. no 1 is-1))
+      test-case P (allCovered (linesOf (mapIn k (namespaceAt s (namespaceAt s n .parent)))) ls) (λ u. f p ls (process-named s w name p g) v m u) (λ u. no 1 is-1))
       (λ t. no 1 is-1)))
       (λ t. no 1 is-1)))))
       (λ t. no 1 is-1))))
 
   pub write-setgroups-case : (c name : ℕ) (text : List ℕ)
-      → ((p : ℕ) (b : Bool) → processNamed s name ≡ At p
+      → ((p : ℕ) (b : Bool) → callerNamed s name ≡ At p
       → P (record { reply = done; tables = putNamespace s (processAt s p .namespace) (withDeny (namespaceAt s (processAt s p .namespace)) b) }))
       → P (writeSetgroupsOf s c name text)
   unfolding writeSetgroupsOf writeSetgroupsTo
   write-setgroups-case c name text f =
-      found-case P (processNamed s c) (no 3 is-3) (λ w e.
-      found-case P (processNamed s name) (no 3 is-3) (λ p g.
+      found-case P (callerNamed s c) (no 3 is-3) (λ w e.
+      found-case P (processNamed s w name) (no 3 is-3) (λ p g.
       let n = processAt s p .namespace in
-      test-case P (capableIn s (processAt s w) n 21)
+      test-case P (capableIn s (processAt s w) n capSysAdmin)
       (λ t.
       setting-case P (settingIn text) (no 22 is-22)
-      (test-case P (isWritten (namespaceAt s n .groups .state)) (λ t. no 1 is-1) (λ t. f p true g))
-      (test-case P (namespaceAt s n .deny) (λ t. no 1 is-1) (λ t. f p false g)))
+      (test-case P (isWritten (namespaceAt s n .groups .state)) (λ t. no 1 is-1) (λ t. f p true (process-named s w name p g)))
+      (test-case P (namespaceAt s n .deny) (λ t. no 1 is-1) (λ t. f p false (process-named s w name p g))))
       (λ t. no 1 is-1)))
 
   pub set-ids-case : (k : Kind) (c : ℕ) (new : Ids)
-      → ((i x y z : ℕ) → processNamed s c ≡ At i
+      → ((i x y z : ℕ) → callerNamed s c ≡ At i
       → chosen by k (processAt s i .namespace) (new .real) (idsIn k (processAt s i) .real) ≡ Id x
       → chosen by k (processAt s i .namespace) (new .effective) (idsIn k (processAt s i) .effective) ≡ Id y
       → chosen by k (processAt s i .namespace) (new .saved) (idsIn k (processAt s i) .saved) ≡ Id z
@@ -177,35 +178,35 @@ module _ (by : Translation) (s : State) (P : Outcome → Type 0) (no : (e : ℕ)
       → P (setIdsOf by s k c (new .real) (new .effective) (new .saved))
   unfolding setIdsOf
   set-ids-case k c new f =
-      found-case P (processNamed s c) (no 3 is-3) (λ i e.
+      found-case P (callerNamed s c) (no 3 is-3) (λ i e.
       three-case P _ _ _ (no 22 is-22) (λ x y z fx fy fz.
       test-case P (mayTake s k (processAt s i) (record { real = x; effective = y; saved = z }) (idsIn k (processAt s i)))
       (λ t. f i x y z e fx fy fz)
       (λ t. no 1 is-1)))
 
   pub set-groups-case : (c : ℕ) (list : List ℕ)
-      → ((i : ℕ) (l : List ℕ) → processNamed s c ≡ At i → ltb 16 (length list) ≡ false → kernelGroups by (processAt s i .namespace) list ≡ some l
+      → ((i : ℕ) (l : List ℕ) → callerNamed s c ≡ At i → ltb maxGroups (length list) ≡ false → kernelGroups by (processAt s i .namespace) list ≡ some l
       → P (record { reply = done; tables = putProcess s i (withList (processAt s i) (groupList l)) }))
       → P (setGroupsOf by s c list)
   unfolding setGroupsOf
   set-groups-case c list f =
-      found-case P (processNamed s c) (no 3 is-3) (λ i e.
-      test-case P (capableIn s (processAt s i) (processAt s i .namespace) 6)
+      found-case P (callerNamed s c) (no 3 is-3) (λ i e.
+      test-case P (capableIn s (processAt s i) (processAt s i .namespace) capSetgid)
       (λ t.
       test-case P (isWritten (namespaceAt s (processAt s i .namespace) .groups .state))
       (λ u.
       test-case P (namespaceAt s (processAt s i .namespace) .deny) (λ v. no 1 is-1) (λ v.
-      test-case P (ltb 16 (length list)) (λ w. no 22 is-22) (λ w.
+      test-case P (ltb maxGroups (length list)) (λ w. no 22 is-22) (λ w.
       list-case P (kernelGroups by (processAt s i .namespace) list) (no 22 is-22) (λ l g. f i l e w g))))
       (λ u. no 1 is-1))
       (λ t. no 1 is-1))
 
   pub drop-case : (c permitted effective : ℕ)
-      → ((i : ℕ) → processNamed s c ≡ At i → P (record { reply = done; tables = putProcess s i (withSets (processAt s i) permitted effective) }))
+      → ((i : ℕ) → callerNamed s c ≡ At i → P (record { reply = done; tables = putProcess s i (withSets (processAt s i) permitted effective) }))
       → P (dropOf s c permitted effective)
   unfolding dropOf
   drop-case c permitted effective f =
-      found-case P (processNamed s c) (no 3 is-3) (λ i e.
+      found-case P (callerNamed s c) (no 3 is-3) (λ i e.
       test-case P (isWithin permitted (processAt s i .permitted .bits))
       (λ t. test-case P (isWithin effective permitted) (λ u. f i e) (λ u. no 1 is-1))
       (λ t. no 1 is-1))

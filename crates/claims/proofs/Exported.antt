@@ -1,7 +1,6 @@
 -- What each exported function promises is a step of document 01's calls, of which it tells the number. Assumes nothing.
 use Prim.Native.Nat.{ℕ, suc, _+_, _-_, _*_, _≤_}
 use mathlib.Core.Path.{_≡_, refl, ap, _∙_}
-use mathlib.Core.Bool.{cond}
 use mathlib.Core.List.{List, _++_, map}
 use native.Mathlib.Omega.{arith}
 use lib.Dec.{ltb}
@@ -15,65 +14,70 @@ use Rattle.rows.proofs.Rows.{row-get, row-none}
 use Rattle.records.specs.declared.Kind.the-variants.{User, Group}
 use Rattle.records.specs.declared.Ids.{Ids}
 use Rattle.records.specs.declared.Process.{Process}
-use Rattle.records.specs.Records.{processOf, freeProcess}
-use Rattle.tables.specs.Tables.{State, tablesOf, processAt}
-use Rattle.tables.specs.Find.{processNamed}
-use Rattle.tables.specs.Reply.{Reply, replyOf, Outcome}
+use Rattle.records.specs.Records.{processOf, freeProcess, maxGroups, processWidth}
+use Rattle.tables.specs.Tables.{State, tablesOf, processAt, processPlaces, processesAt}
+use Rattle.tables.specs.Find.{callerNamed}
+use Rattle.tables.specs.Reply.{Reply, Outcome}
 use Rattle.hierarchy.specs.Walks.{Translation}
 use Rattle.hierarchy.specs.Lifted.{quick}
 use Rattle.mapping.specs.Calls.{ReadOutcome}
 use Rattle.credentials.specs.declared.own.OwnIds.{OwnIds}
+use Rattle.credentials.specs.declared.own.OwnResult.{OwnResult}
+use Rattle.credentials.specs.OwnReply.{idsList, ownReply}
 use Rattle.credentials.specs.Calls.{groupList, seen, seenIds, seenGroups, ownIdsOf}
 use Rattle.calls.specs.declared.Call.{Call}
 use Rattle.calls.specs.declared.Call.the-variants.{Fork, Clone, Unshare, Setns, WriteMap, WriteSetgroups, ReadMap, ReadSetgroups, SetIds, SetGroups, Capable, Drop, OwnIdsOf, Translate}
-use Rattle.calls.specs.Calls.{idsList, stored, asked, readBy, callReply, answerBy}
-use Rattle.exports.specs.Codes.{codeOf, idsRow, isOwn, CodedIds}
+use Rattle.calls.specs.Calls.{stored, asked, readBy, answerBy}
+use Rattle.exports.specs.Codes.{ownThrees, codeOf, idsRow, ownWidth, ownCode, ownWords, CodedIds}
 use Rattle.claims.specs.Execution.{Stores, Reads, Asks, Tells, ExportPromise, Numbered, wordsAfter}
 use Rattle.claims.proofs.Cases.{found-case}
 
 -- own IDs: the number of groups is told, or the refusal
-groups-code : (u g : Ids) (xs : List ℕ) → groupList xs .count ≡ length (idsList u g (groupList xs)) - 6
-unfolding groupList
-groups-code u g xs = let h = ap length (take-append-seam xs (replicate (16 - length xs) 0)) in omega arith
+abbrev ownWith : Ids → Ids → List ℕ → OwnIds
+ownWith u g xs = record { users = u; groups = g; supplementary = groupList xs }
 
-abbrev OwnCode : OwnIds → Type 0
-OwnCode own = cond (isOwn (own .answer)) (own .supplementary .count) (codeOf (replyOf (own .answer))) ≡ codeOf (callReply own)
+groups-code : (u g : Ids) (xs : List ℕ) → groupList xs .count ≡ length (idsList (ownWith u g xs)) - ownThrees
+unfolding groupList
+groups-code u g xs = let h = ap length (take-append-seam xs (replicate (maxGroups - length xs) 0)) in omega arith
+
+abbrev OwnCode : OwnResult → Type 0
+OwnCode own = ownCode (own .answer) (own .ids) ≡ codeOf (ownReply own)
 
 own-code : (by : Translation) (s : State) (c : ℕ) → OwnCode (ownIdsOf by s c)
 unfolding ownIdsOf seenGroups
 own-code by s c =
-    found-case OwnCode (processNamed s c) refl (λ i e.
+    found-case OwnCode (callerNamed s c) refl (λ i e.
     groups-code (seenIds by User (processAt s i .namespace) (processAt s i .users)) (seenIds by Group (processAt s i .namespace) (processAt s i .groups)) _)
 
 -- their words are those of the reply
-own-row : (u g : Ids) (xs : List ℕ) → length xs ≤ 16 → idsRow u g (groupList xs) ≡ idsList u g (groupList xs) ++ replicate (22 - length (idsList u g (groupList xs))) 0
+own-row : (u g : Ids) (xs : List ℕ) → length xs ≤ maxGroups → idsRow (ownWith u g xs) ≡ idsList (ownWith u g xs) ++ replicate (ownWidth - length (idsList (ownWith u g xs))) 0
 unfolding groupList
 own-row u g xs h =
-    let zeros : List ℕ = replicate (16 - length xs) 0 in
+    let zeros : List ℕ = replicate (maxGroups - length xs) 0 in
     let seam = take-append-seam xs zeros in
-    let all = tab-all (xs ++ zeros) 0 16 (simp (length-append, length-replicate) (omega arith)) in
-    let left : 22 - suc (suc (suc (suc (suc (suc (length xs)))))) ≡ 16 - length xs = omega arith in
+    let all = tab-all (xs ++ zeros) 0 maxGroups (simp (length-append, length-replicate) (omega arith)) in
+    let left : ownWidth - suc (suc (suc (suc (suc (suc (length xs)))))) ≡ maxGroups - length xs = omega arith in
     rw (all, seam, left)
 
--- a process's record has 16 places for groups
-groups-long : (l : List ℕ) (i : ℕ) → length (processAt (tablesOf l) i .supplementary .ids) ≡ 16
+-- a process's record has that many places for groups
+groups-long : (l : List ℕ) (i : ℕ) → length (processAt (tablesOf l) i .supplementary .ids) ≡ maxGroups
 unfolding processAt tablesOf
 groups-long l i =
-    by-test (ltb i 128)
-    (λ t. ap (λ (p : Process). length (p .supplementary .ids)) (row-get processOf 27 128 0 l i freeProcess (0 + i * 27) refl (ltb-true i 128 t)))
-    (λ t. ap (λ (p : Process). length (p .supplementary .ids)) (row-none processOf 27 128 0 l i freeProcess (ltb-false i 128 t)))
+    by-test (ltb i processPlaces)
+    (λ t. ap (λ (p : Process). length (p .supplementary .ids)) (row-get processOf processWidth processPlaces processesAt l i freeProcess (processesAt + i * processWidth) refl (ltb-true i processPlaces t)))
+    (λ t. ap (λ (p : Process). length (p .supplementary .ids)) (row-none processOf processWidth processPlaces processesAt l i freeProcess (ltb-false i processPlaces t)))
 
-abbrev OwnWords : List ℕ → OwnIds → Type 0
-OwnWords words own = cond (isOwn (own .answer)) (putAt words 0 (idsRow (own .users) (own .groups) (own .supplementary))) words ≡ wordsAfter (callReply own) words
+abbrev OwnWords : List ℕ → OwnResult → Type 0
+OwnWords words own = ownWords (own .answer) (own .ids) words ≡ wordsAfter (ownReply own) words
 
-pub exported-words : (by : Translation) (l : List ℕ) (c code : ℕ) (words words′ : List ℕ) → CodedIds code words words′ (ownIdsOf by (tablesOf l) c) → words′ ≡ wordsAfter (callReply (ownIdsOf by (tablesOf l) c)) words
+pub exported-words : (by : Translation) (l : List ℕ) (c code : ℕ) (words words′ : List ℕ) → CodedIds code words words′ (ownIdsOf by (tablesOf l) c) → words′ ≡ wordsAfter (ownReply (ownIdsOf by (tablesOf l) c)) words
 unfolding ownIdsOf seenGroups
 exported-words by l c code words words′ p =
     p .words
-    ∙ found-case (OwnWords words) (processNamed (tablesOf l) c) refl (λ i e.
+    ∙ found-case (OwnWords words) (callerNamed (tablesOf l) c) refl (λ i e.
     let p = processAt (tablesOf l) i in
     let xs = map (seen by Group (p .namespace)) (take (p .supplementary .count) (p .supplementary .ids)) in
-    let few : length xs ≤ 16 = let h = groups-long l i in simp (length-map, length-take) (omega arith) in
+    let few : length xs ≤ maxGroups = let h = groups-long l i in simp (length-map, length-take) (omega arith) in
     ap (putAt words 0) (own-row (seenIds by User (p .namespace) (p .users)) (seenIds by Group (p .namespace) (p .groups)) xs few))
 
 module _ (code : ℕ) (entry exit before after : List ℕ) where
@@ -90,7 +94,7 @@ module _ (code : ℕ) (entry exit before after : List ℕ) where
   asks-step r (p, e, f) = record { answer = p; tables = ap tablesOf e; buffer = f; kept = λ t. e }
 
   -- `CodedIds`
-  ids-step : (by : Translation) (c : ℕ) → Tells code entry exit before after (ownIdsOf by (tablesOf entry) c) → Numbered code entry exit after (asked (tablesOf entry) (callReply (ownIdsOf by (tablesOf entry) c)) before)
+  ids-step : (by : Translation) (c : ℕ) → Tells code entry exit before after (ownIdsOf by (tablesOf entry) c) → Numbered code entry exit after (asked (tablesOf entry) (ownReply (ownIdsOf by (tablesOf entry) c)) before)
   ids-step by c ((words, words′, p), e, f) = record { answer = p .answer ∙ own-code by (tablesOf entry) c; tables = ap tablesOf e; buffer = f; kept = λ t. e }
 
   pub exported-step : (c : Call) (text list : List ℕ) → ExportPromise code entry exit before after c text list → Numbered code entry exit after (quick answerBy (tablesOf entry) c text list before)

@@ -28,7 +28,7 @@ use Rattle.records.specs.declared.IdMap.{IdMap}
 use Rattle.records.specs.Records.{mapIn, isWritten, linesOf}
 use Rattle.tables.specs.declared.find.Found.the-variants.{At}
 use Rattle.tables.specs.Tables.{State, processAt, namespaceAt, liftedAt, putNamespace}
-use Rattle.tables.specs.Find.{processNamed}
+use Rattle.tables.specs.Find.{processNamed, callerNamed}
 use Rattle.hierarchy.specs.Walks.{Translation}
 use Rattle.mapping.specs.Calls.{allCovered, writtenMap, withMap, mappedTables, writeMapOf, withDeny, writeSetgroupsOf}
 use Rattle.calls.specs.declared.Call.the-variants.{WriteMap, WriteSetgroups}
@@ -115,7 +115,7 @@ unwritten-is m e = by-state (m .state) e
 
 module _ (by : Translation) (s : State) (h : List Event) (a : Agreed s h) (b : Beside s h) (d : SoundAt h) (text list : List ℕ) where
   -- the namespace of a process that is named
-  module _ (name p : ℕ) (e : processNamed s name ≡ At p) where
+  module _ (name p : ℕ) (e : callerNamed s name ≡ At p) where
     target : ℕ
     target = processAt s p .namespace
 

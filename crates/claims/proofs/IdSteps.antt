@@ -18,10 +18,10 @@ use Rattle.records.specs.declared.Kind.the-variants.{User, Group}
 use Rattle.records.specs.declared.Ids.{Ids}
 use Rattle.records.specs.declared.GroupList.{GroupList}
 use Rattle.records.specs.declared.Process.{Process}
-use Rattle.records.specs.Records.{idsIn}
+use Rattle.records.specs.Records.{idsIn, maxGroups}
 use Rattle.tables.specs.declared.find.Found.the-variants.{At}
 use Rattle.tables.specs.Tables.{State, processAt, putProcess}
-use Rattle.tables.specs.Find.{processNamed}
+use Rattle.tables.specs.Find.{processNamed, callerNamed}
 use Rattle.hierarchy.specs.Walks.{Translation}
 use Rattle.credentials.specs.Calls.{chosen, withUsers, withGroups, withIds, setIdsOf, toOption, groupList, withList, kernelGroups, setGroupsOf, withSets, dropOf}
 use Rattle.calls.specs.declared.Call.the-variants.{SetIds, SetGroups, Drop}
@@ -99,7 +99,7 @@ module _ (by : Translation) (s : State) (h : List Event) (a : Agreed s h) (b : B
   outs : (k : Kind) (n x : ℕ) → by .out k n x ≡ standsFor k h n x
   outs k n x = λ j. o j .out k n x
 
-  module _ (c i : ℕ) (e : processNamed s c ≡ At i) where
+  module _ (c i : ℕ) (e : callerNamed s c ≡ At i) where
     -- one of the three: the tables choose as the history does
     chosen-agrees : (k : Kind) (x old old′ : ℕ) → old ≡ old′ → chosen by k (processAt s i .namespace) x old ≡ chosenOf k h (placeOf h c) x old′
     chosen-agrees k x old old′ f = rw (f, outs k (processAt s i .namespace) x, caller-place s h a c i e)
@@ -187,7 +187,7 @@ module _ (by : Translation) (s : State) (h : List Event) (a : Agreed s h) (b : B
       (keeps-lifted s (λ (k : Kind). liftOf k h) _ _ b))
 
   -- ---- setgroups
-  module _ (c i : ℕ) (e : processNamed s c ≡ At i) (l : List ℕ) (f : kernelGroups by (processAt s i .namespace) list ≡ some l) where
+  module _ (c i : ℕ) (e : callerNamed s c ≡ At i) (l : List ℕ) (f : kernelGroups by (processAt s i .namespace) list ≡ some l) where
     all-stand : allOf (λ (x : ℕ). toOption (standsFor Group h (placeOf h c) x)) list ≡ some l
     unfolding kernelGroups
     all-stand =
@@ -196,7 +196,7 @@ module _ (by : Translation) (s : State) (h : List Event) (a : Agreed s h) (b : B
 
     listed : take (groupList l .count) (groupList l .ids) ≡ map (λ (x : ℕ). orNoId (standsFor Group h (placeOf h c) x)) list
     unfolding groupList
-    listed = take-append-seam l (replicate (16 - length l) 0) ∙ groups-are (standsFor Group h (placeOf h c)) list l all-stand
+    listed = take-append-seam l (replicate (maxGroups - length l) 0) ∙ groups-are (standsFor Group h (placeOf h c)) list l all-stand
 
     groups-after : (k : Kind) (m : ℕ) → cond (eqb m i) (heldIn k (withList (processAt s i) (groupList l))) (heldOf k h (suc m))
         ≡ cond (sameKind k Group && eqb (suc m) c) (record { three = heldOf k h c .three; supplementary = map (λ (x : ℕ). orNoId (standsFor Group h (placeOf h c) x)) list }) (heldOf k h (suc m))
@@ -213,7 +213,7 @@ module _ (by : Translation) (s : State) (h : List Event) (a : Agreed s h) (b : B
         rw (same-number m c i (caller-is s h a c i e), groups-are (standsFor Group h (placeOf h c)) list l all-stand)
         (sym (cond-ap (λ (r : Held). length (r .supplementary)) (eqb m i) _ (heldOf Group h (suc m))))
 
-    grouped-next : AllSmall list → length list ≤ 16 → Next h (grouped c list) (putProcess s i (withList (processAt s i) (groupList l)))
+    grouped-next : AllSmall list → length list ≤ maxGroups → Next h (grouped c list) (putProcess s i (withList (processAt s i) (groupList l)))
     unfolding isProcess isNamespace placeOf parentOf levelOf writtenOf liftOf heldOf withList
     grouped-next f few = record {
       agree = stores-process s _ _ _ _ _ _ _ a i (withList (processAt s i) (groupList l)) (process-in-range s i (named s c i e .1)) _ _ _
@@ -227,4 +227,4 @@ module _ (by : Translation) (s : State) (h : List Event) (a : Agreed s h) (b : B
 
   pub set-groups-next : (c : ℕ) → AllSmall list → After h (SetGroups c) text list (setGroupsOf by s c list)
   set-groups-next c f =
-      set-groups-case by s (After h (SetGroups c) text list) (λ e i. nothing-happened s h a b) c list (λ i l e w g. grouped-next c i e l g f (ltb-false 16 (length list) w))
+      set-groups-case by s (After h (SetGroups c) text list) (λ e i. nothing-happened s h a b) c list (λ i l e w g. grouped-next c i e l g f (ltb-false maxGroups (length list) w))

@@ -9,15 +9,16 @@ use Rattle.prelude.proofs.Tests.{by-test}
 use Rattle.idmap.specs.declared.Translated.{Translated}
 use Rattle.idmap.specs.declared.Translated.the-variants.{Id, Unmapped}
 use Rattle.tables.specs.Tables.{State, processAt}
-use Rattle.tables.specs.Find.{processNamed, namespaceNamed}
+use Rattle.tables.specs.Find.{processNamed, namespaceNamed, callerNamed}
 use Rattle.tables.specs.Reply.{Reply, refused, yes′, no′, isRefused, Outcome}
 use Rattle.hierarchy.specs.Walks.{Translation, capableIn}
 use Rattle.mapping.specs.Calls.{ReadOutcome, readText, readMapOf, readSetgroupsOf}
-use Rattle.credentials.specs.declared.own.OwnIds.{OwnIds}
+use Rattle.credentials.specs.declared.own.OwnResult.{OwnResult}
+use Rattle.credentials.specs.OwnReply.{ownReply}
 use Rattle.credentials.specs.Calls.{capableReply, ownIdsOf, translated, turned, translateReply}
 use Rattle.calls.specs.declared.Call.{Call}
 use Rattle.calls.specs.declared.Call.the-variants.{Fork, Clone, Unshare, Setns, WriteMap, WriteSetgroups, ReadMap, ReadSetgroups, SetIds, SetGroups, Capable, Drop, OwnIdsOf, Translate}
-use Rattle.calls.specs.Calls.{Request, stored, asked, readBy, callReply, answerBy}
+use Rattle.calls.specs.Calls.{Request, stored, asked, readBy, answerBy}
 use Rattle.claims.specs.TopLevel.{Has}
 use Rattle.claims.specs.Refusals.{refusalNumbers, Refuses, RefusesWell}
 use Rattle.claims.proofs.Cases.{found-case, is-3, is-22, is-34, fork-case, clone-case, unshare-case, setns-case, write-map-case, write-setgroups-case, set-ids-case, set-groups-case, drop-case}
@@ -64,25 +65,25 @@ module _ (by : Translation) (s : State) (buffer : List ℕ) where
   call-refuses (WriteMap k c p) text list = write-map-case by s Stored (refuses s buffer) k c p text (λ q ls e w m g. answers s _ buffer _ _ refl)
   call-refuses (WriteSetgroups c p) text list = write-setgroups-case by s Stored (refuses s buffer) c p text (λ q b e. answers s _ buffer _ _ refl)
   call-refuses (ReadMap k c p) text list =
-      found-case Read (processNamed s c) (refuses s buffer 3 is-3) (λ r e.
-      found-case Read (processNamed s p) (refuses s buffer 3 is-3) (λ q f. read-text _))
+      found-case Read (callerNamed s c) (refuses s buffer 3 is-3) (λ r e.
+      found-case Read (processNamed s r p) (refuses s buffer 3 is-3) (λ q f. read-text _))
   call-refuses (ReadSetgroups c p) text list =
-      found-case Read (processNamed s c) (refuses s buffer 3 is-3) (λ r e.
-      found-case Read (processNamed s p) (refuses s buffer 3 is-3) (λ q f. read-text _))
+      found-case Read (callerNamed s c) (refuses s buffer 3 is-3) (λ r e.
+      found-case Read (processNamed s r p) (refuses s buffer 3 is-3) (λ q f. read-text _))
   call-refuses (SetIds k c i) text list = set-ids-case by s Stored (refuses s buffer) k c i (λ j x y z e fx fy fz. answers s _ buffer _ _ refl)
   call-refuses (SetGroups c) text list = set-groups-case by s Stored (refuses s buffer) c list (λ i l e w f. answers s _ buffer _ _ refl)
   call-refuses (Capable c n number) text list =
-      found-case Asked (processNamed s c) (refuses s buffer 3 is-3) (λ i e.
-      found-case Asked (namespaceNamed s n) (refuses s buffer 3 is-3) (λ m f.
+      found-case Asked (callerNamed s c) (refuses s buffer 3 is-3) (λ i e.
+      found-case Asked (namespaceNamed s i n) (refuses s buffer 3 is-3) (λ m f.
       by-test (ltb 36 number)
       (λ t. rw t (refuses s buffer 22 is-22))
       (λ t. rw t (answers s s buffer _ _ (question (capableIn s (processAt s i) m number))))))
   call-refuses (Drop c p e) text list = drop-case by s Stored (refuses s buffer) c p e (λ i f. answers s _ buffer _ _ refl)
   call-refuses (OwnIdsOf c) text list =
-      found-case (λ (r : OwnIds). Asked (callReply r)) (processNamed s c) (refuses s buffer 3 is-3) (λ i e. answers s s buffer _ _ refl)
+      found-case (λ (r : OwnResult). Asked (ownReply r)) (callerNamed s c) (refuses s buffer 3 is-3) (λ i e. answers s s buffer _ _ refl)
   call-refuses (Translate k w c n x) text list =
-      found-case Asked (processNamed s c) (refuses s buffer 3 is-3) (λ i e.
-      found-case Asked (namespaceNamed s n) (refuses s buffer 3 is-3) (λ m f. answers s s buffer _ _ (translation (turned by k w m x))))
+      found-case Asked (callerNamed s c) (refuses s buffer 3 is-3) (λ i e.
+      found-case Asked (namespaceNamed s i n) (refuses s buffer 3 is-3) (λ m f. answers s s buffer _ _ (translation (turned by k w m x))))
 
 pub refusals : (by : Translation) (s : State) (r : Request) → RefusesWell by s r
 refusals by s r = call-refuses by s (r .buffer) (r .call) (r .text) (r .list)

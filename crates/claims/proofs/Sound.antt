@@ -9,6 +9,7 @@ use native.Mathlib.Omega.{arith}
 use lib.Dec.{eqb, leb}
 use lib.ListN.{length}
 use borrow.Author.Tests.{ne-eqb, eqb-true, leb-true}
+use Rattle.tables.specs.Tables.{maxLevel}
 use Rattle.idmap.specs.declared.Line.{Line}
 use Rattle.idmap.specs.Good.{maxLines, goodOf}
 use Rattle.idmap.specs.Cover.{HasLine}
@@ -33,7 +34,7 @@ pub record Sound (isP isN : ℕ → Bool) (place up level : ℕ → ℕ) (maps :
   pub placed : (p : ℕ) → isP p ≡ true → isN (place p) ≡ true
   pub parented : (m : ℕ) → isN m ≡ true → isN (up m) ≡ true
   pub levelled : (m : ℕ) → isN m ≡ true → (m ≡ 0 → ⊥) → level m ≡ suc (level (up m))
-  pub shallow : (m : ℕ) → level m ≤ 32
+  pub shallow : (m : ℕ) → level m ≤ maxLevel
   pub good : (k : Kind) (m : ℕ) → goodOf (orNone (maps k m)) ≡ true
   pub counted : (k : Kind) (m : ℕ) → Counted (maps k m)
   pub covered : (k : Kind) (m z : ℕ) → OnParentSide (orNone (maps k m)) z → HasLine (orNone (maps k (up m))) z
@@ -113,7 +114,7 @@ module _ (isP isN : ℕ → Bool) (place up level : ℕ → ℕ) (maps : Kind �
       (λ p e. by-test (eqb p q) (λ r. rw r t) (λ r. rw r (s .placed p (sym (rw r) ∙ e))))
 
   -- namespace n is made, under namespace m
-  module _ (n m : ℕ) (new : isN n ≡ false) (old : isN m ≡ true) (high : level m < 32) where
+  module _ (n m : ℕ) (new : isN n ≡ false) (old : isN m ≡ true) (high : level m < maxLevel) where
     abbrev isN′ : ℕ → Bool
     isN′ i = cond (eqb i n) true (isN i)
 
@@ -137,7 +138,7 @@ module _ (isP isN : ℕ → Bool) (place up level : ℕ → ℕ) (maps : Kind �
           by-test (eqb i n)
           (λ r. rw (r, other-than m old))
           (λ r. let b = before i r t in rw (r, other-than (up i) (s .parented i b)) (s .levelled i b h));
-      shallow = λ i. cond-elim (λ (l : ℕ). l ≤ 32) (eqb i n) (omega arith) (s .shallow i);
+      shallow = λ i. cond-elim (λ (l : ℕ). l ≤ maxLevel) (eqb i n) (omega arith) (s .shallow i);
       good = s .good;
       counted = s .counted;
       covered = λ k i z o.

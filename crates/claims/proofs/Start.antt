@@ -13,7 +13,7 @@ use Rattle.records.specs.declared.Process.{Process}
 use Rattle.records.specs.declared.MapState.the-variants.{Unwritten}
 use Rattle.records.specs.declared.Namespace.{Namespace}
 use Rattle.records.specs.Records.{freeProcess, freeNamespace, mapIn}
-use Rattle.tables.specs.Tables.{State, processAt, namespaceAt, liftedMaps, noLift, fixedLift, liftedAt, putProcess, firstProcess, rootNamespace, firstLiftedMaps, initialTables, allZero}
+use Rattle.tables.specs.Tables.{State, processAt, namespaceAt, liftedMaps, noLift, fixedLift, liftedAt, putProcess, firstProcess, rootNamespace, firstLiftedMaps, initialTables, allZero, processPlaces, namespacePlaces}
 use Rattle.prelude.proofs.Tests.{by-test}
 use Rattle.claims.specs.Words.{isProcess, isNamespace, placeOf, parentOf, levelOf, writtenOf, heldOf}
 use Rattle.claims.specs.Agreement.{heldIn, writtenIn, stateFor, Agrees, Agreed}
@@ -28,7 +28,7 @@ all-same x (suc n) zero = refl
 all-same x (suc n) (suc i) = all-same x n i
 
 abbrev empty : State
-empty = record { processes = replicate 128 freeProcess; namespaces = replicate 64 freeNamespace; liftedUsers = firstLiftedMaps; liftedGroups = firstLiftedMaps }
+empty = record { processes = replicate processPlaces freeProcess; namespaces = replicate namespacePlaces freeNamespace; liftedUsers = firstLiftedMaps; liftedGroups = firstLiftedMaps }
 
 free-ids : (k : Kind) → heldIn k freeProcess ≡ record { three = allZero; supplementary = [] }
 free-ids User = refl
@@ -46,17 +46,17 @@ free-state Group = refl
 empty-agrees : Agrees empty (λ (i : ℕ). false) (λ (i : ℕ). false) (λ (i : ℕ). 0) (λ (i : ℕ). 0) (λ (i : ℕ). 0) (λ (k : Kind) (i : ℕ). none) (λ (k : Kind) (i : ℕ). record { three = allZero; supplementary = [] })
 unfolding processAt namespaceAt
 empty-agrees = record {
-  process-places = length-replicate 128 freeProcess;
-  namespace-places = length-replicate 64 freeNamespace;
-  process-live = λ i. ap (λ (p : Process). p .live) (all-same freeProcess 128 i);
-  process-place = λ i. ap (λ (p : Process). p .namespace) (all-same freeProcess 128 i);
-  process-ids = λ k i. ap (heldIn k) (all-same freeProcess 128 i) ∙ free-ids k;
-  process-count = λ i. ap (λ (p : Process). p .supplementary .count) (all-same freeProcess 128 i);
-  namespace-live = λ i. ap (λ (n : Namespace). n .live) (all-same freeNamespace 64 i);
-  namespace-parent = λ i. ap (λ (n : Namespace). n .parent) (all-same freeNamespace 64 i);
-  namespace-level = λ i. ap (λ (n : Namespace). n .level) (all-same freeNamespace 64 i);
-  namespace-map = λ k i. ap (λ (n : Namespace). writtenIn (mapIn k n)) (all-same freeNamespace 64 i) ∙ free-map k;
-  namespace-state = λ k i. ap (λ (n : Namespace). mapIn k n .state) (all-same freeNamespace 64 i) ∙ free-state k;
+  process-places = length-replicate processPlaces freeProcess;
+  namespace-places = length-replicate namespacePlaces freeNamespace;
+  process-live = λ i. ap (λ (p : Process). p .live) (all-same freeProcess processPlaces i);
+  process-place = λ i. ap (λ (p : Process). p .namespace) (all-same freeProcess processPlaces i);
+  process-ids = λ k i. ap (heldIn k) (all-same freeProcess processPlaces i) ∙ free-ids k;
+  process-count = λ i. ap (λ (p : Process). p .supplementary .count) (all-same freeProcess processPlaces i);
+  namespace-live = λ i. ap (λ (n : Namespace). n .live) (all-same freeNamespace namespacePlaces i);
+  namespace-parent = λ i. ap (λ (n : Namespace). n .parent) (all-same freeNamespace namespacePlaces i);
+  namespace-level = λ i. ap (λ (n : Namespace). n .level) (all-same freeNamespace namespacePlaces i);
+  namespace-map = λ k i. ap (λ (n : Namespace). writtenIn (mapIn k n)) (all-same freeNamespace namespacePlaces i) ∙ free-map k;
+  namespace-state = λ k i. ap (λ (n : Namespace). mapIn k n .state) (all-same freeNamespace namespacePlaces i) ∙ free-state k;
 }
 
 first-ids : (k : Kind) → heldIn k firstProcess ≡ record { three = allZero; supplementary = [] }
@@ -94,14 +94,14 @@ start-agrees =
     root-state
 
 -- ---- the lifted maps: the initial namespace's only
-first-places : (k : Kind) → length (liftedMaps k initialTables) ≡ 64
+first-places : (k : Kind) → length (liftedMaps k initialTables) ≡ namespacePlaces
 unfolding initialTables firstLiftedMaps
 first-places User = refl
 first-places Group = refl
 
 first-lift : (i : ℕ) → getD firstLiftedMaps i noLift ≡ cond (eqb i 0) fixedLift noLift
 unfolding firstLiftedMaps
-first-lift i = stored-or-kept (replicate 64 noLift) 0 fixedLift noLift i (rw (length-replicate) (omega arith)) ∙ rw (all-same noLift 64 i)
+first-lift i = stored-or-kept (replicate namespacePlaces noLift) 0 fixedLift noLift i (rw (length-replicate) (omega arith)) ∙ rw (all-same noLift namespacePlaces i)
 
 first-lifts : (k : Kind) (i : ℕ) → liftedAt initialTables k i ≡ liftOf k [] i
 unfolding initialTables liftedAt liftOf

@@ -9,6 +9,7 @@ use native.Mathlib.Omega.{arith}
 use lib.Dec.{eqb, leb}
 use lib.ListN.{length}
 use borrow.Author.Tests.{eqb-true, eqb-false, leb-false}
+use Rattle.capability.specs.Sets.{capSysAdmin}
 use Rattle.records.specs.declared.Kind.{Kind}
 use Rattle.records.specs.declared.Kind.the-variants.{User, Group}
 use Rattle.records.specs.declared.Process.{Process}
@@ -16,11 +17,11 @@ use Rattle.records.specs.declared.Namespace.{Namespace}
 use Rattle.records.specs.declared.MapState.the-variants.{Unwritten}
 use Rattle.records.specs.Records.{mapIn}
 use Rattle.tables.specs.declared.find.Found.the-variants.{At}
-use Rattle.tables.specs.Tables.{State, processAt, namespaceAt, putProcess, putNamespace}
-use Rattle.tables.specs.Find.{processNamed, namespaceNamed, freeProcessPlace, freeNamespacePlace}
+use Rattle.tables.specs.Tables.{State, processAt, namespaceAt, putProcess, putNamespace, maxLevel}
+use Rattle.tables.specs.Find.{processNamed, namespaceNamed, freeProcessPlace, freeNamespacePlace, callerNamed, processNumber}
 use Rattle.tables.specs.Reply.{Outcome}
 use Rattle.hierarchy.specs.Walks.{Translation, heightOf, ownedBy, holdsIn, capableIn}
-use Rattle.process.specs.Calls.{sysAdmin, forkOf, below, entered, withChild, cloneOf, unshareOf, setnsOf}
+use Rattle.process.specs.Calls.{forkOf, below, entered, withChild, cloneOf, unshareOf, setnsOf}
 use Rattle.calls.specs.declared.Call.{Call}
 use Rattle.calls.specs.declared.Call.the-variants.{Fork, Clone, Unshare, Setns}
 use Rattle.prelude.proofs.Tests.{by-test, and-left}
@@ -54,12 +55,12 @@ After h c text list o = Next h (happenedBy c text list (o .reply)) (o .tables)
 
 module _ (by : Translation) (s : State) (h : List Event) (a : Agreed s h) (b : Beside s h) (d : SoundAt h) (l : LiftsAt h) (text list : List ℕ) where
   -- a child has as many groups as the caller
-  count-after : (j q c i : ℕ) → processNamed s c ≡ At i
-      → cond (eqb j q) (processAt s i .supplementary .count) (length (heldOf Group h (suc j) .supplementary)) ≡ length (cond (eqb (suc j) (q + 1)) (heldOf Group h c) (heldOf Group h (suc j)) .supplementary)
+  count-after : (j q c i : ℕ) → callerNamed s c ≡ At i
+      → cond (eqb j q) (processAt s i .supplementary .count) (length (heldOf Group h (suc j) .supplementary)) ≡ length (cond (eqb (suc j) (processNumber q)) (heldOf Group h c) (heldOf Group h (suc j)) .supplementary)
   count-after j q c i e = rw (next-number j q, caller-count s h a c i e) (sym (cond-ap (λ (m : Held). length (m .supplementary)) (eqb j q) (heldOf Group h c) (heldOf Group h (suc j))))
 
   -- ---- fork
-  forked-next : (c i q : ℕ) → processNamed s c ≡ At i → freeProcessPlace s ≡ At q → Next h (forked c (q + 1)) (putProcess s q (processAt s i))
+  forked-next : (c i q : ℕ) → callerNamed s c ≡ At i → freeProcessPlace s ≡ At q → Next h (forked c (processNumber q)) (putProcess s q (processAt s i))
   unfolding isProcess isNamespace placeOf parentOf levelOf writtenOf liftOf heldOf
   forked-next c i q e f = record {
     agree = stores-process s _ _ _ _ _ _ _ a q (processAt s i) (free-process s q f .0) _ _ _
@@ -70,7 +71,7 @@ module _ (by : Translation) (s : State) (h : List Event) (a : Agreed s h) (b : B
     beside = keeps-lifted s (λ (k : Kind). liftOf k h) _ _ b;
     allowed = record {
       caller = caller-live s h a c i e;
-      unused = let z : q + 1 ≡ suc q = omega arith in rw z (sym (a .process-live q) ∙ free-process s q f .1);
+      unused = sym (a .process-live q) ∙ free-process s q f .1;
       named = λ z. omega arith;
     };
   }
@@ -94,7 +95,7 @@ module _ (by : Translation) (s : State) (h : List Event) (a : Agreed s h) (b : B
   entered-ids User p n = refl
   entered-ids Group p n = refl
 
-  module _ (c p n : ℕ) (e : processNamed s c ≡ At p) (g : freeNamespacePlace s ≡ At n) (r : leb 32 (namespaceAt s (processAt s p .namespace) .level) ≡ false) where
+  module _ (c p n : ℕ) (e : callerNamed s c ≡ At p) (g : freeNamespacePlace s ≡ At n) (r : leb maxLevel (namespaceAt s (processAt s p .namespace) .level) ≡ false) where
     abbrev own : Namespace
     own = namespaceAt s (processAt s p .namespace)
 
@@ -111,7 +112,7 @@ module _ (by : Translation) (s : State) (h : List Event) (a : Agreed s h) (b : B
     new-namespace = record {
       caller = caller-live s h a c p e;
       unused = unused;
-      room = let l = leb-false 32 (namespaceAt s (processAt s p .namespace) .level) r in let f = level-above in omega arith;
+      room = let l = leb-false maxLevel (namespaceAt s (processAt s p .namespace) .level) r in let f = level-above in omega arith;
     }
 
     -- the namespace is stored, and every process is as it was
@@ -137,7 +138,7 @@ module _ (by : Translation) (s : State) (h : List Event) (a : Agreed s h) (b : B
         (λ k. l .unwritten k n (d .made k n unused))
         (keeps-lifted s (λ (k : Kind). liftOf k h) _ _ b)
 
-    cloned-next : (q : ℕ) → freeProcessPlace s ≡ At q → Next h (cloned c (q + 1) n) (putProcess (withChild s p n) q (entered (processAt s p) n))
+    cloned-next : (q : ℕ) → freeProcessPlace s ≡ At q → Next h (cloned c (processNumber q) n) (putProcess (withChild s p n) q (entered (processAt s p) n))
     unfolding isProcess isNamespace placeOf parentOf levelOf writtenOf liftOf heldOf entered
     cloned-next q f = record {
       agree = stores-process (withChild s p n) _ _ _ _ _ _ _ with-child q (entered (processAt s p) n) (free-process s q f .0) _ _ _
@@ -149,7 +150,7 @@ module _ (by : Translation) (s : State) (h : List Event) (a : Agreed s h) (b : B
       allowed = (
         record {
           caller = caller-live s h a c p e;
-          unused = let z : q + 1 ≡ suc q = omega arith in rw z (sym (a .process-live q) ∙ free-process s q f .1);
+          unused = sym (a .process-live q) ∙ free-process s q f .1;
           named = λ z. omega arith;
         },
         new-namespace,
@@ -193,19 +194,19 @@ module _ (by : Translation) (s : State) (h : List Event) (a : Agreed s h) (b : B
       (here (sym (a .namespace-parent n) ∙ eqb-true (namespaceAt s n .parent) own (and-left _ (eqb (namespaceAt s n .owner) euid) o))))
       (λ o. deeper (eqb-false n 0 z) (rw (a .namespace-parent n) at (reaches own euid mine k (namespaceAt s n .parent) (sym (rw (t, z, o)) ∙ e))))))
 
-  joined-next : (c name p n : ℕ) → processNamed s c ≡ At p → namespaceNamed s name ≡ At n → capableIn s (processAt s p) n sysAdmin ≡ true → Next h (joined c name) (putProcess s p (entered (processAt s p) n))
+  joined-next : (c name p n : ℕ) → callerNamed s c ≡ At p → namespaceNamed s p name ≡ At n → capableIn s (processAt s p) n capSysAdmin ≡ true → Next h (joined c name) (putProcess s p (entered (processAt s p) n))
   unfolding isProcess isNamespace placeOf parentOf levelOf writtenOf liftOf heldOf entered capableIn
   joined-next c name p n e f t = record {
     agree = stores-process s _ _ _ _ _ _ _ a p (entered (processAt s p) n) (process-in-range s p (named s c p e .1)) _ _ _
         (λ j. picked-same (λ (i : ℕ). isProcess h (suc i)) j p (processAt s p .live) (a .process-live p))
-        (λ j. rw (same-number j c p (caller-is s h a c p e), space-named s name n f .0))
+        (λ j. rw (same-number j c p (caller-is s h a c p e), space-named s p name n f .0))
         (λ k j. picked-same (λ (i : ℕ). heldOf k h (suc i)) j p (heldIn k (entered (processAt s p) n)) (entered-ids k (processAt s p) n ∙ a .process-ids k p))
         (λ j. picked-same (λ (i : ℕ). length (heldOf Group h (suc i) .supplementary)) j p (processAt s p .supplementary .count) (a .process-count p));
     beside = keeps-lifted s (λ (k : Kind). liftOf k h) _ _ b;
     allowed = record {
       caller = caller-live s h a c p e;
-      target = rw (space-named s name n f .0) (sym (a .namespace-live n) ∙ space-named s name n f .1);
-      inward = rw (space-named s name n f .0, ← caller-place s h a c p e) (reaches _ _ _ (heightOf s n) n t);
+      target = rw (space-named s p name n f .0) (sym (a .namespace-live n) ∙ space-named s p name n f .1);
+      inward = rw (space-named s p name n f .0, ← caller-place s h a c p e) (reaches _ _ _ (heightOf s n) n t);
     };
   }
 

@@ -16,7 +16,7 @@ use Rattle.records.specs.declared.Kind.the-variants.{User, Group}
 use Rattle.records.specs.Records.{freeProcess, freeNamespace}
 use Rattle.tables.specs.declared.find.Found.the-variants.{At, Nothing}
 use Rattle.tables.specs.Tables.{State, processAt, namespaceAt, liftedMaps, noLift, liftedAt, putProcess, putNamespace, putLiftedMap}
-use Rattle.tables.specs.Find.{processNamed, namespaceNamed, freeFrom, freeProcessPlace, freeNamespacePlace}
+use Rattle.tables.specs.Find.{callerNamed, processNamed, namespaceNamed, freeFrom, freeProcessPlace, freeNamespacePlace, processNumber}
 use Rattle.prelude.proofs.Tests.{by-test, test-same}
 use Rattle.claims.specs.Words.{sameKind}
 
@@ -68,8 +68,8 @@ two-finds : {i : ℕ} → Nothing ≡ At i → ⊥
 two-finds e = let z : _≡_ {A = ℕ} 0 1 = cc in omega arith
 
 -- a process that is named: its number is one more than its place, where it is live
-pub named : (s : State) (c i : ℕ) → processNamed s c ≡ At i → (c ≡ suc i) × (processAt s i .live ≡ true)
-unfolding processNamed
+pub named : (s : State) (c i : ℕ) → callerNamed s c ≡ At i → (c ≡ processNumber i) × (processAt s i .live ≡ true)
+unfolding callerNamed
 named s c i e =
     by-test (eqb c 0)
     (λ t. absurd (two-finds (sym (rw t) ∙ e)))
@@ -82,12 +82,17 @@ named s c i e =
     (omega arith, rw g at r))
     (λ r. absurd (two-finds (sym (rw (t, r)) ∙ e))))
 
-pub space-named : (s : State) (c i : ℕ) → namespaceNamed s c ≡ At i → (c ≡ i) × (namespaceAt s i .live ≡ true)
+pub space-named : (s : State) (p c i : ℕ) → namespaceNamed s p c ≡ At i → (c ≡ i) × (namespaceAt s i .live ≡ true)
 unfolding namespaceNamed
-space-named s c i e =
+space-named s p c i e =
     by-test (namespaceAt s c .live)
     (λ r. let f : At c ≡ At i = sym (rw r) ∙ e in let g : c ≡ i = cc in (g, rw g at r))
     (λ r. absurd (two-finds (sym (rw r) ∙ e)))
+
+-- a process that another one names is found as a caller is
+pub process-named : (s : State) (p name i : ℕ) → processNamed s p name ≡ At i → callerNamed s name ≡ At i
+unfolding processNamed
+process-named s p name i e = e
 
 -- a place that is free is in range and not live
 free-at : {A : Type 0} (live : A → Bool) (d : A) (k : ℕ) (xs : List A) (i : ℕ) → freeFrom live k xs ≡ At i → (k ≤ i) × (i - k < length xs) × (live (getD xs (i - k) d) ≡ false)
@@ -114,11 +119,11 @@ unfolding freeNamespacePlace namespaceAt
 free-namespace s i e = let r = free-at (λ (n : Namespace). n .live) freeNamespace 0 (s .namespaces) i e in let z : i - 0 ≡ i = omega arith in (rw z at (r .1), rw z at (r .2))
 
 -- ---- numbers of processes and their places
-pub next-number : (i q : ℕ) → eqb (suc i) (q + 1) ≡ eqb i q
+pub next-number : (i q : ℕ) → eqb (processNumber i) (processNumber q) ≡ eqb i q
 next-number i q =
-    test-same (eqb (suc i) (q + 1)) (eqb i q)
-    (λ t. let e = eqb-true (suc i) (q + 1) t in eq-eqb i q (omega arith))
-    (λ t. let e = eqb-true i q t in eq-eqb (suc i) (q + 1) (omega arith))
+    test-same (eqb (processNumber i) (processNumber q)) (eqb i q)
+    (λ t. let e = eqb-true (processNumber i) (processNumber q) t in eq-eqb i q (omega arith))
+    (λ t. let e = eqb-true i q t in eq-eqb (processNumber i) (processNumber q) (omega arith))
 
-pub same-number : (i c q : ℕ) → c ≡ suc q → eqb (suc i) c ≡ eqb i q
-same-number i c q e = let f : c ≡ q + 1 = omega arith in rw f (next-number i q)
+pub same-number : (i c q : ℕ) → c ≡ processNumber q → eqb (processNumber i) c ≡ eqb i q
+same-number i c q e = rw e (next-number i q)

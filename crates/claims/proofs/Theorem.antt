@@ -10,7 +10,7 @@ use Rattle.idmap.specs.declared.Translated.the-variants.{Id, Unmapped}
 use Rattle.idmap.proofs.Translation.{two-answers}
 use Rattle.records.specs.declared.Kind.{Kind}
 use Rattle.tables.specs.Tables.{State, initialTables}
-use Rattle.tables.specs.Find.{processNamed, namespaceNamed}
+use Rattle.tables.specs.Find.{processNamed, namespaceNamed, callerNamed}
 use Rattle.tables.specs.Reply.{Reply, id, unmapped}
 use Rattle.hierarchy.specs.Walks.{Translation}
 use Rattle.credentials.specs.Calls.{turned, translated, translateReply}
@@ -87,9 +87,9 @@ module _ (by : Translation) (s : State) (h : List Event) (d : SoundAt h) (u : by
   translate-answers : (k : Kind) (w : Way) (c name x : ℕ) → x < 2 ^ 32 → Answers (translateReply by s k w c name x) (TranslatesTo h k w name x)
   unfolding translateReply
   translate-answers k w c name x small =
-      found-case (λ (r : Reply). Answers r (TranslatesTo h k w name x)) (processNamed s c) (λ t. absurd (true≢false t)) (λ i e.
-      found-case (λ (r : Reply). Answers r (TranslatesTo h k w name x)) (namespaceNamed s name) (λ t. absurd (true≢false t)) (λ n f.
-      subst (λ (m : ℕ). Answers (translated (turned by k w n x)) (TranslatesTo h k w m x)) (sym (space-named s name n f .0))
+      found-case (λ (r : Reply). Answers r (TranslatesTo h k w name x)) (callerNamed s c) (λ t. absurd (true≢false t)) (λ i e.
+      found-case (λ (r : Reply). Answers r (TranslatesTo h k w name x)) (namespaceNamed s i name) (λ t. absurd (true≢false t)) (λ n f.
+      subst (λ (m : ℕ). Answers (translated (turned by k w n x)) (TranslatesTo h k w m x)) (sym (space-named s i name n f .0))
       (answers (turned by k w n x) (TranslatesTo h k w n x) (by-history k w n x small))))
 
   call-translates : (c : Call) (text list buffer : List ℕ) → CallFits c → TranslatesBy h c (answerBy by s c text list buffer .reply)

@@ -15,9 +15,9 @@ use Rattle.idmap.specs.Good.{noId, goodOf, boundedOf, fitsOf, allApart}
 use Rattle.idmap.proofs.Translation.{two-answers}
 use Rattle.lifted_map.proofs.Composition.{out-low}
 use Rattle.records.specs.declared.Kind.{Kind}
-use Rattle.tables.specs.Tables.{State, fixedLine}
+use Rattle.tables.specs.Tables.{State, fixedLine, maxLevel}
 use Rattle.hierarchy.specs.Walks.{Translation, heightOf, itself}
-use Rattle.hierarchy.specs.Lifted.{outIn, toKernelBy, toKernel, backIn, fromKernelBy, fromKernel, byLiftedMaps}
+use Rattle.hierarchy.specs.Lifted.{outIn, toKernelBy, toKernel, backIn, fromKernelBy, fromKernel, byLiftedMaps, stepsAbove}
 use Rattle.prelude.proofs.Tests.{by-test}
 use Rattle.prelude.proofs.Made.{some-none}
 use Rattle.claims.specs.Translation.{byLevels, outBy, backBy}
@@ -130,17 +130,17 @@ module _ (s : State) (h : List Event) (b : Beside s h) (d : SoundAt h) (o : Lift
       rw (b .lifted k n)
       (ap (λ (t : Translated). cond (eqb n 0) (itself y) (thenId t (λ z. back (lift n) z))) (back-agrees f (base n) y))
 
-  to-agrees : (n x : ℕ) → toKernel s k n x ≡ outBy base lift 32 n x
+  to-agrees : (n x : ℕ) → toKernel s k n x ≡ outBy base lift maxLevel n x
   unfolding toKernel toKernelBy outBy
   to-agrees n x =
       rw (b .lifted k n)
-      (ap (λ (g : ℕ → Translated). cond (eqb n 0) (itself x) (thenId (out (lift n) x) g)) (λ i y. out-agrees 31 (base n) y i))
+      (ap (λ (g : ℕ → Translated). cond (eqb n 0) (itself x) (thenId (out (lift n) x) g)) (λ i y. out-agrees stepsAbove (base n) y i))
 
-  from-agrees : (n y : ℕ) → fromKernel s k n y ≡ backBy base lift 32 n y
+  from-agrees : (n y : ℕ) → fromKernel s k n y ≡ backBy base lift maxLevel n y
   unfolding fromKernel fromKernelBy backBy
   from-agrees n y =
       rw (b .lifted k n)
-      (ap (λ (t : Translated). cond (eqb n 0) (itself y) (thenId t (λ z. back (lift n) z))) (back-agrees 31 (base n) y))
+      (ap (λ (t : Translated). cond (eqb n 0) (itself y) (thenId t (λ z. back (lift n) z))) (back-agrees stepsAbove (base n) y))
 
   -- ---- which give what the maps give level by level
   falls : (m : ℕ) → (m ≡ 0 → ⊥) → (writtenOf k h m ≡ none → ⊥) → levelOf h (parentOf h m) < levelOf h m
@@ -148,11 +148,11 @@ module _ (s : State) (h : List Event) (b : Beside s h) (d : SoundAt h) (o : Lift
 
   -- the same two walks, by lifted maps and level by level
   module _ (n x : ℕ) (small : x < 2 ^ 32) where
-    lift-stands : outBy base lift 32 n x ≡ standsFor k h n x
+    lift-stands : outBy base lift maxLevel n x ≡ standsFor k h n x
     lift-stands =
-        by-translated (outBy base lift 32 n x)
+        by-translated (outBy base lift maxLevel n x)
         (λ y e.
-        let r = out-is base lift (o .good k) 32 n x y small e in
+        let r = out-is base lift (o .good k) maxLevel n x y small e in
         let q = lifted-out _ _ _ o k (levelOf h) falls (d .good k) (levelOf h n) n x y (omega arith) small r in
         e ∙ sym (History.is-stands h d k n x y q))
         (λ e.
@@ -160,14 +160,14 @@ module _ (s : State) (h : List Event) (b : Beside s h) (d : SoundAt h) (o : Lift
         (λ y f.
         let r = History.stands-is h d k n x y small f in
         let q = out-lifted _ _ _ o k (levelOf h) falls (d .good k) n x y small r in
-        absurd (two-answers (sym e ∙ is-out base lift (o .good k) (levelOf h) (lift-falls _ _ _ o k (levelOf h) falls (d .good k)) 32 n x y (d .shallow n) q)))
+        absurd (two-answers (sym e ∙ is-out base lift (o .good k) (levelOf h) (lift-falls _ _ _ o k (levelOf h) falls (d .good k)) maxLevel n x y (d .shallow n) q)))
         (λ f. e ∙ sym f))
 
-    lift-returns : backBy base lift 32 n x ≡ backBy (parentOf h) (writtenLines k h) (levelOf h n) n x
+    lift-returns : backBy base lift maxLevel n x ≡ backBy (parentOf h) (writtenLines k h) (levelOf h n) n x
     lift-returns =
-        by-translated (backBy base lift 32 n x)
+        by-translated (backBy base lift maxLevel n x)
         (λ y e.
-        let b = back-is base lift (o .good k) 32 n x y small e in
+        let b = back-is base lift (o .good k) maxLevel n x y small e in
         let w = back-small base lift (o .good k) n x y b in
         let q = lifted-out _ _ _ o k (levelOf h) falls (d .good k) (levelOf h n) n y x (omega arith) (omega arith) (back-out base lift (o .good k) n y x b) in
         e ∙ sym (History.is-returns h d k n x y (History.out-back h d k n y x q)))
@@ -177,7 +177,7 @@ module _ (s : State) (h : List Event) (b : Beside s h) (d : SoundAt h) (o : Lift
         let b = History.returns-is h d k n x y small f in
         let w = History.back-small h d k n x y b in
         let q = out-lifted _ _ _ o k (levelOf h) falls (d .good k) n y x (omega arith) (History.back-out h d k n y x b) in
-        absurd (two-answers (sym e ∙ is-back base lift (o .good k) (levelOf h) (lift-falls _ _ _ o k (levelOf h) falls (d .good k)) 32 n x y (d .shallow n) (out-back base lift (o .good k) n y x q))))
+        absurd (two-answers (sym e ∙ is-back base lift (o .good k) (levelOf h) (lift-falls _ _ _ o k (levelOf h) falls (d .good k)) maxLevel n x y (d .shallow n) (out-back base lift (o .good k) n y x q))))
         (λ f. e ∙ sym f))
 
   -- ---- so translation by the tables is that by the history
@@ -186,20 +186,20 @@ module _ (s : State) (h : List Event) (b : Beside s h) (d : SoundAt h) (o : Lift
       by-test (eqb n 0)
       (λ t.
       let z = eqb-true n 0 t in
-      to-agrees n x ∙ root-out base lift 32 n x z ∙ sym (root-out (parentOf h) (writtenLines k h) (levelOf h n) n x z))
+      to-agrees n x ∙ root-out base lift maxLevel n x z ∙ sym (root-out (parentOf h) (writtenLines k h) (levelOf h n) n x z))
       (λ t.
       let z = eqb-false n 0 t in
-      to-agrees n x ∙ sym (low-out base lift 32 n x z) ∙ lift-stands n (x % 2 ^ 32) (omega arith) ∙ low-out (parentOf h) (writtenLines k h) (levelOf h n) n x z)
+      to-agrees n x ∙ sym (low-out base lift maxLevel n x z) ∙ lift-stands n (x % 2 ^ 32) (omega arith) ∙ low-out (parentOf h) (writtenLines k h) (levelOf h n) n x z)
 
   pub returns-agrees : (n y : ℕ) → fromKernel s k n y ≡ backBy (parentOf h) (writtenLines k h) (levelOf h n) n y
   returns-agrees n y =
       by-test (eqb n 0)
       (λ t.
       let z = eqb-true n 0 t in
-      from-agrees n y ∙ root-back base lift 32 n y z ∙ sym (root-back (parentOf h) (writtenLines k h) (levelOf h n) n y z))
+      from-agrees n y ∙ root-back base lift maxLevel n y z ∙ sym (root-back (parentOf h) (writtenLines k h) (levelOf h n) n y z))
       (λ t.
       let z = eqb-false n 0 t in
-      from-agrees n y ∙ sym (low-back base lift (o .good k) 32 n y z) ∙ lift-returns n (y % 2 ^ 32) (omega arith) ∙ low-back (parentOf h) (writtenLines k h) (d .good k) (levelOf h n) n y z)
+      from-agrees n y ∙ sym (low-back base lift (o .good k) maxLevel n y z) ∙ lift-returns n (y % 2 ^ 32) (omega arith) ∙ low-back (parentOf h) (writtenLines k h) (d .good k) (levelOf h n) n y z)
 
 -- ---- the translation of a history, which is the level by level one of the tables
 abbrev pub byHistory : List Event → Translation

@@ -6,22 +6,23 @@ use mathlib.Core.List.{List, [], _∷_}
 use mathlib.Core.Option.{Option, none, some}
 use lib.Dec.{eqb, leb, ltb}
 use lib.ListN.{length}
-use Rattle.capability.specs.Sets.{isWithin}
+use Rattle.records.specs.declared.Namespace.{Namespace}
+use Rattle.capability.specs.Sets.{isWithin, capSysAdmin, capSetgid, capLastCap}
 use Rattle.idmap.specs.declared.Line.{Line}
 use Rattle.idmap.specs.declared.Translated.{Translated}
 use Rattle.idmap.specs.declared.Translated.the-variants.{Id, Unmapped}
-use Rattle.idmap.specs.Text.{mapLines}
+use Rattle.idmap.specs.Text.{mapLines, maxTextBytes}
 use Rattle.records.specs.declared.Kind.{Kind}
 use Rattle.records.specs.declared.Ids.{Ids}
 use Rattle.records.specs.declared.Process.{Process}
-use Rattle.records.specs.Records.{idsIn, mapIn, setIdOf, isWritten, linesOf}
+use Rattle.records.specs.Records.{idsIn, mapIn, setIdOf, isWritten, linesOf, maxGroups}
 use Rattle.tables.specs.declared.find.Found.{Found}
 use Rattle.tables.specs.declared.find.Found.the-variants.{At, Nothing}
-use Rattle.tables.specs.Tables.{State, processAt, namespaceAt}
-use Rattle.tables.specs.Find.{processNamed, namespaceNamed, freeProcessPlace, freeNamespacePlace}
+use Rattle.tables.specs.Tables.{State, processAt, namespaceAt, maxLevel}
+use Rattle.tables.specs.Find.{processNamed, namespaceNamed, freeProcessPlace, freeNamespacePlace, callerNamed}
 use Rattle.tables.specs.Reply.{Reply, yes′, no′, Outcome, onFound}
 use Rattle.hierarchy.specs.Walks.{Translation, heightOf, holdsIn, capableIn}
-use Rattle.process.specs.Calls.{sysAdmin, forkOf, knowsItself, makesNamespace, cloneOf, unshareOf, setnsOf}
+use Rattle.process.specs.Calls.{forkOf, knowsItself, makesNamespace, cloneOf, unshareOf, setnsOf}
 use Rattle.mapping.specs.Calls.{isNear, singleLine, mayMap, allCovered, mappedTables, thenLines, writeLinesTo, writeMapTo, writeMapOf, settingIn, thenSetting, writeSetgroupsTo, writeSetgroupsOf}
 use Rattle.mapping.specs.Calls.{viewOf, shownLine, mapTextOf, readMapOf, readSetgroupsOf}
 use Rattle.credentials.specs.Calls.{chosen, thenThree, mayTake, allOneOf, setIdsOf, thenList, kernelGroups, setGroupsOf, capableReply, dropOf, seenGroups, ownIdsOf, translateReply}
@@ -84,15 +85,15 @@ module _ (s : State) where
   by′ = byLevels (bare s)
 
   fork-same : (c : ℕ) → bareOut (forkOf s c) ≡ bareOut (forkOf (bare s) c)
-  unfolding forkOf processNamed processAt freeProcessPlace
-  fork-same c = found-same bareOut (processNamed s c) refl (λ i. found-same bareOut (freeProcessPlace s) refl (λ q. refl))
+  unfolding forkOf callerNamed processAt freeProcessPlace
+  fork-same c = found-same bareOut (callerNamed s c) refl (λ i. found-same bareOut (freeProcessPlace s) refl (λ q. refl))
 
   -- ---- clone, unshare, setns
   makes-same : (c : ℕ) (n n′ : ℕ → ℕ → Outcome) → ((p m : ℕ) → bareOut (n p m) ≡ bareOut (n′ p m)) → bareOut (makesNamespace by s c n) ≡ bareOut (makesNamespace by′ (bare s) c n′)
-  unfolding processNamed processAt namespaceAt freeNamespacePlace knowsItself byLevels heightOf
+  unfolding callerNamed processAt namespaceAt freeNamespacePlace knowsItself byLevels heightOf
   makes-same c n n′ q =
-      found-same bareOut (processNamed s c) refl (λ p.
-      test-same bareOut (leb 32 (namespaceAt s (processAt s p .namespace) .level)) _ refl refl
+      found-same bareOut (callerNamed s c) refl (λ p.
+      test-same bareOut (leb maxLevel (namespaceAt s (processAt s p .namespace) .level)) _ refl refl
       (test-same bareOut (knowsItself by (processAt s p)) _ refl (found-same bareOut (freeNamespacePlace s) refl (λ m. q p m)) refl))
 
   clone-same : (c : ℕ) → bareOut (cloneOf by s c) ≡ bareOut (cloneOf by′ (bare s) c)
@@ -104,26 +105,26 @@ module _ (s : State) where
   unshare-same c = makes-same c _ _ (λ p m. refl)
 
   setns-same : (c n : ℕ) → bareOut (setnsOf s c n) ≡ bareOut (setnsOf (bare s) c n)
-  unfolding setnsOf processNamed namespaceNamed processAt namespaceAt
+  unfolding setnsOf callerNamed namespaceNamed processAt namespaceAt
   setns-same c name =
-      found-same bareOut (processNamed s c) refl (λ p.
-      found-same bareOut (namespaceNamed s name) refl (λ n.
+      found-same bareOut (callerNamed s c) refl (λ p.
+      found-same bareOut (namespaceNamed s p name) refl (λ n.
       test-same bareOut (eqb (processAt s p .namespace) n) _ refl refl
-      (test-same bareOut (capableIn s (processAt s p) n sysAdmin) _ (capable-same (processAt s p) n sysAdmin) refl refl)))
+      (test-same bareOut (capableIn s (processAt s p) n capSysAdmin) _ (capable-same (processAt s p) n capSysAdmin) refl refl)))
 
   -- ---- the files
-  may-same : (k : Kind) (w : Process) (n : ℕ) (ls : List Line) → mayMap by s k w n ls ≡ mayMap by′ (bare s) k w n ls
+  may-same : (k : Kind) (w : Process) (n : Namespace) (ls : List Line) → mayMap by s k w n ls ≡ mayMap by′ (bare s) k w n ls
   unfolding mayMap singleLine byLevels heightOf namespaceAt
-  may-same k w n [] = rw (capable-same w (namespaceAt s n .parent) (setIdOf k))
-  may-same k w n (l ∷ []) = rw (capable-same w (namespaceAt s n .parent) (setIdOf k))
-  may-same k w n (l ∷ m ∷ ls) = rw (capable-same w (namespaceAt s n .parent) (setIdOf k))
+  may-same k w n [] = rw (capable-same w (n .parent) (setIdOf k))
+  may-same k w n (l ∷ []) = rw (capable-same w (n .parent) (setIdOf k))
+  may-same k w n (l ∷ m ∷ ls) = rw (capable-same w (n .parent) (setIdOf k))
 
   module _ (k : Kind) (w : Process) (n : ℕ) (text : List ℕ) where
     write-lines-same : bareOut (writeLinesTo by s k w n text) ≡ bareOut (writeLinesTo by′ (bare s) k w n text)
     unfolding writeLinesTo namespaceAt mappedTables
     write-lines-same =
         lines-same bareOut (mapLines text) refl (λ ls.
-        test-same bareOut (mayMap by s k w n ls) _ (may-same k w n ls)
+        test-same bareOut (mayMap by s k w (namespaceAt s n) ls) _ (may-same k w (namespaceAt s n) ls)
         (test-same bareOut (allCovered (linesOf (mapIn k (namespaceAt s (namespaceAt s n .parent)))) ls) _ refl refl refl)
         refl)
 
@@ -131,26 +132,26 @@ module _ (s : State) where
     unfolding writeMapTo namespaceAt isNear
     write-to-same =
         test-same bareOut (eqb n 0) _ refl refl
-        (test-same bareOut (isNear s w n) _ refl
+        (test-same bareOut (isNear w n (namespaceAt s n)) _ refl
         (test-same bareOut (eqb (length text) 0) _ refl refl
-        (test-same bareOut (ltb 4095 (length text)) _ refl refl
+        (test-same bareOut (ltb maxTextBytes (length text)) _ refl refl
         (test-same bareOut (isWritten (mapIn k (namespaceAt s n) .state)) _ refl refl
         (test-same bareOut (capableIn s w n (setIdOf k)) _ (capable-same w n (setIdOf k)) write-lines-same refl))))
         refl)
 
   write-map-same : (k : Kind) (c p : ℕ) (text : List ℕ) → bareOut (writeMapOf by s k c p text) ≡ bareOut (writeMapOf by′ (bare s) k c p text)
-  unfolding writeMapOf processNamed processAt
+  unfolding writeMapOf callerNamed processNamed processAt
   write-map-same k c name text =
-      found-same bareOut (processNamed s c) refl (λ i.
-      found-same bareOut (processNamed s name) refl (λ p. write-to-same k (processAt s i) (processAt s p .namespace) text))
+      found-same bareOut (callerNamed s c) refl (λ i.
+      found-same bareOut (processNamed s i name) refl (λ p. write-to-same k (processAt s i) (processAt s p .namespace) text))
 
   write-setgroups-same : (c p : ℕ) (text : List ℕ) → bareOut (writeSetgroupsOf s c p text) ≡ bareOut (writeSetgroupsOf (bare s) c p text)
-  unfolding writeSetgroupsOf writeSetgroupsTo processNamed processAt namespaceAt
+  unfolding writeSetgroupsOf writeSetgroupsTo callerNamed processNamed processAt namespaceAt
   write-setgroups-same c name text =
-      found-same bareOut (processNamed s c) refl (λ i.
-      found-same bareOut (processNamed s name) refl (λ p.
+      found-same bareOut (callerNamed s c) refl (λ i.
+      found-same bareOut (processNamed s i name) refl (λ p.
       let n = processAt s p .namespace in
-      test-same bareOut (capableIn s (processAt s i) n 21) _ (capable-same (processAt s i) n 21)
+      test-same bareOut (capableIn s (processAt s i) n capSysAdmin) _ (capable-same (processAt s i) n capSysAdmin)
       (setting-same bareOut (settingIn text) refl
       (test-same bareOut (isWritten (namespaceAt s n .groups .state)) _ refl refl refl)
       (test-same bareOut (namespaceAt s n .deny) _ refl refl refl))
@@ -158,9 +159,9 @@ module _ (s : State) where
 
   -- ---- IDs
   set-ids-same : (k : Kind) (c : ℕ) (new : Ids) → bareOut (setIdsOf by s k c (new .real) (new .effective) (new .saved)) ≡ bareOut (setIdsOf by′ (bare s) k c (new .real) (new .effective) (new .saved))
-  unfolding setIdsOf processNamed processAt namespaceAt byLevels heightOf mayTake
+  unfolding setIdsOf callerNamed processAt namespaceAt byLevels heightOf mayTake
   set-ids-same k c new =
-      found-same bareOut (processNamed s c) refl (λ i.
+      found-same bareOut (callerNamed s c) refl (λ i.
       let p = processAt s i in
       three-same bareOut
       (chosen by k (p .namespace) (new .real) (idsIn k p .real))
@@ -171,37 +172,37 @@ module _ (s : State) where
       test-same bareOut (mayTake s k p ids (idsIn k p)) _ (ap (λ (t : Bool). t || allOneOf ids (idsIn k p)) (capable-same p (p .namespace) (setIdOf k))) refl refl))
 
   set-groups-same : (c : ℕ) (list : List ℕ) → bareOut (setGroupsOf by s c list) ≡ bareOut (setGroupsOf by′ (bare s) c list)
-  unfolding setGroupsOf processNamed processAt namespaceAt byLevels heightOf kernelGroups
+  unfolding setGroupsOf callerNamed processAt namespaceAt byLevels heightOf kernelGroups
   set-groups-same c list =
-      found-same bareOut (processNamed s c) refl (λ i.
+      found-same bareOut (callerNamed s c) refl (λ i.
       let p = processAt s i in
       let n = namespaceAt s (p .namespace) in
-      test-same bareOut (capableIn s p (p .namespace) 6) _ (capable-same p (p .namespace) 6)
+      test-same bareOut (capableIn s p (p .namespace) capSetgid) _ (capable-same p (p .namespace) capSetgid)
       (test-same bareOut (isWritten (n .groups .state)) _ refl
       (test-same bareOut (n .deny) _ refl refl
-      (test-same bareOut (ltb 16 (length list)) _ refl refl
+      (test-same bareOut (ltb maxGroups (length list)) _ refl refl
       (list-same bareOut (kernelGroups by (p .namespace) list) refl (λ l. refl))))
       refl)
       refl)
 
   drop-same : (c p e : ℕ) → bareOut (dropOf s c p e) ≡ bareOut (dropOf (bare s) c p e)
-  unfolding dropOf processNamed processAt
+  unfolding dropOf callerNamed processAt
   drop-same c permitted effective =
-      found-same bareOut (processNamed s c) refl (λ i.
+      found-same bareOut (callerNamed s c) refl (λ i.
       test-same bareOut (isWithin permitted (processAt s i .permitted .bits)) _ refl
       (test-same bareOut (isWithin effective permitted) _ refl refl refl)
       refl)
 
   -- ---- questions and reads
   capable-reply-same : (c n number : ℕ) → capableReply s c n number ≡ capableReply (bare s) c n number
-  unfolding capableReply processNamed namespaceNamed processAt namespaceAt
+  unfolding capableReply callerNamed namespaceNamed processAt namespaceAt
   capable-reply-same c name number =
-      found-same (λ (r : Reply). r) (processNamed s c) refl (λ i.
-      found-same (λ (r : Reply). r) (namespaceNamed s name) refl (λ n.
-      test-same (λ (r : Reply). r) (ltb 36 number) _ refl refl (ap (λ (t : Bool). cond t yes′ no′) (capable-same (processAt s i) n number))))
+      found-same (λ (r : Reply). r) (callerNamed s c) refl (λ i.
+      found-same (λ (r : Reply). r) (namespaceNamed s i name) refl (λ n.
+      test-same (λ (r : Reply). r) (ltb capLastCap number) _ refl refl (ap (λ (t : Bool). cond t yes′ no′) (capable-same (processAt s i) n number))))
 
   call-same : (c : Call) (text list buffer : List ℕ) → bareStep (answerBy by s c text list buffer) ≡ bareStep (answerBy by′ (bare s) c text list buffer)
-  unfolding answerBy readMapOf mapTextOf shownLine viewOf readSetgroupsOf ownIdsOf seenGroups translateReply processNamed namespaceNamed processAt namespaceAt byLevels heightOf
+  unfolding answerBy readMapOf mapTextOf shownLine viewOf readSetgroupsOf ownIdsOf seenGroups translateReply callerNamed processNamed namespaceNamed processAt namespaceAt byLevels heightOf
   call-same (Fork c) text list buffer = stored-same buffer (forkOf s c) (forkOf (bare s) c) (fork-same c)
   call-same (Clone c) text list buffer = stored-same buffer (cloneOf by s c) (cloneOf by′ (bare s) c) (clone-same c)
   call-same (Unshare c) text list buffer = stored-same buffer (unshareOf by s c) (unshareOf by′ (bare s) c) (unshare-same c)

@@ -13,7 +13,7 @@ use Rattle.records.specs.declared.MapState.{MapState}
 use Rattle.records.specs.declared.MapState.the-variants.{Unwritten, Written}
 use Rattle.records.specs.declared.IdMap.{IdMap}
 use Rattle.records.specs.Records.{idsIn, mapIn}
-use Rattle.tables.specs.Tables.{State, processAt, namespaceAt}
+use Rattle.tables.specs.Tables.{State, processAt, namespaceAt, processPlaces, namespacePlaces}
 use Rattle.claims.specs.Events.{Event}
 use Rattle.claims.specs.Words.{Held, isProcess, isNamespace, placeOf, parentOf, levelOf, writtenOf, heldOf}
 
@@ -42,8 +42,8 @@ stateFor (some ls) = Written (length ls)
 -- are live that are processes and namespaces, each process has its namespace and its IDs of both kinds, each namespace its parent, its level and
 -- its maps of both kinds
 pub record Agrees (s : State) (isP isN : ℕ → Bool) (place up level : ℕ → ℕ) (maps : Kind → ℕ → Option (List Line)) (carries : Kind → ℕ → Held) : Type 0 where
-  pub process-places : length (s .processes) ≡ 128
-  pub namespace-places : length (s .namespaces) ≡ 64
+  pub process-places : length (s .processes) ≡ processPlaces
+  pub namespace-places : length (s .namespaces) ≡ namespacePlaces
   pub process-live : (i : ℕ) → processAt s i .live ≡ isP (suc i)
   pub process-place : (i : ℕ) → processAt s i .namespace ≡ place (suc i)
   pub process-ids : (k : Kind) (i : ℕ) → heldIn k (processAt s i) ≡ carries k (suc i)

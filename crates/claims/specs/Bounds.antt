@@ -15,8 +15,8 @@ use Rattle.idmap.specs.Cover.{HasLine}
 use Rattle.records.specs.declared.Kind.{Kind}
 use Rattle.records.specs.declared.Process.{Process}
 use Rattle.records.specs.declared.MapState.the-variants.{Unwritten, Written}
-use Rattle.records.specs.Records.{mapIn, linesOf}
-use Rattle.tables.specs.Tables.{State, processAt, namespaceAt}
+use Rattle.records.specs.Records.{mapIn, linesOf, maxGroups}
+use Rattle.tables.specs.Tables.{State, processAt, namespaceAt, processPlaces, namespacePlaces, maxLevel}
 use Rattle.hierarchy.specs.Walks.{capableIn}
 use Rattle.calls.specs.Calls.{Request}
 use Rattle.claims.specs.Events.{Event}
@@ -55,15 +55,15 @@ module _ (rs : List Request) where
     pub out : (k : Kind) (n x y : ℕ) → x < 2 ^ 32 → (byLevels s .out k n x ≡ Id y) ↔ OutOf k h n x y
     pub back : (k : Kind) (n y x : ℕ) → y < 2 ^ 32 → (byLevels s .back k n y ≡ Id x) ↔ BackOf k h n y x
     -- every live record is in range, and what it names is live
-    pub process-in-range : (i : ℕ) → processAt s i .live ≡ true → i < 128
-    pub namespace-in-range : (n : ℕ) → namespaceAt s n .live ≡ true → n < 64
+    pub process-in-range : (i : ℕ) → processAt s i .live ≡ true → i < processPlaces
+    pub namespace-in-range : (n : ℕ) → namespaceAt s n .live ≡ true → n < namespacePlaces
     pub place-live : (i : ℕ) → processAt s i .live ≡ true → namespaceAt s (processAt s i .namespace) .live ≡ true
     pub parent-live : (n : ℕ) → namespaceAt s n .live ≡ true → namespaceAt s (namespaceAt s n .parent) .live ≡ true
     -- levels are at most 32
-    pub levels : (n : ℕ) → namespaceAt s n .level ≤ 32
+    pub levels : (n : ℕ) → namespaceAt s n .level ≤ maxLevel
     -- every ID that a process carries is a kernel ID, and it has at most 16 groups
     pub carried-ids : (k : Kind) (i y : ℕ) → Has y (held (heldIn k (processAt s i))) → y < noId
-    pub group-count : (i : ℕ) → processAt s i .supplementary .count ≤ 16
+    pub group-count : (i : ℕ) → processAt s i .supplementary .count ≤ maxGroups
     -- a written map has one to five lines, as many as its record says
     pub line-count : (k : Kind) (n c : ℕ) → mapIn k (namespaceAt s n) .state ≡ Written c → (1 ≤ c) × (c ≤ maxLines) × (length (linesAt s k n) ≡ c)
     -- each of them is bounded, and no two overlap on either side

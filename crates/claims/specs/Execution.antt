@@ -11,12 +11,13 @@ use Rattle.tables.specs.Reply.{Reply, Outcome, isRefused}
 use Rattle.hierarchy.specs.Lifted.{byLiftedMaps, quick}
 use Rattle.process.specs.Calls.{forkOf, cloneOf, unshareOf, setnsOf}
 use Rattle.mapping.specs.Calls.{ReadOutcome, writeMapOf, writeSetgroupsOf, readMapOf, readSetgroupsOf}
-use Rattle.credentials.specs.declared.own.OwnIds.{OwnIds}
+use Rattle.credentials.specs.declared.own.OwnResult.{OwnResult}
 use Rattle.credentials.specs.Calls.{setIdsOf, setGroupsOf, capableReply, dropOf, ownIdsOf, translateReply}
+use Rattle.calls.specs.declared.Response.{Response}
 use Rattle.calls.specs.declared.Call.{Call}
 use Rattle.calls.specs.declared.Call.the-variants.{Fork, Clone, Unshare, Setns, WriteMap, WriteSetgroups, ReadMap, ReadSetgroups, SetIds, SetGroups, Capable, Drop, OwnIdsOf, Translate}
 use Rattle.calls.specs.Calls.{Request, Step, callReply, listedIn, CallPromise}
-use Rattle.exports.specs.Codes.{codeOf, Coded, CodedRead, CodedIds}
+use Rattle.exports.specs.Codes.{codeOf, Coded, CodedRead, ownWidth, CodedIds}
 use Rattle.claims.specs.History.{Entry, stepOf, run, history, Fits}
 use Rattle.claims.specs.Holds.{Holds}
 use Rattle.claims.specs.Bounds.{Bounds}
@@ -37,7 +38,7 @@ module _ (code : ℕ) (entry exit before after : List ℕ) where
   Asks r = (code ≡ codeOf r) × (exit ≡ entry) × (after ≡ before)
 
   -- the own-ID question, which puts the IDs into words that are lent to it
-  abbrev pub Tells : OwnIds → Type 0
+  abbrev pub Tells : OwnResult → Type 0
   Tells own = ((words words′ : List ℕ) × CodedIds code words words′ own) × (exit ≡ entry) × (after ≡ before)
 
   abbrev pub ExportPromise : Call → List ℕ → List ℕ → Type 0
@@ -63,10 +64,10 @@ pub record Numbered (code : ℕ) (entry exit after : List ℕ) (step : Step) : T
   pub buffer : after ≡ step .buffer
   pub kept : isRefused (step .reply) ≡ true → exit ≡ entry
 
--- what the own-ID question leaves in the 22 words that are lent to it: the IDs of its reply in order and 0 past them, or what was there where it refuses.
+-- what the own-ID question leaves in the words that are lent to it: the IDs of its reply in order and 0 past them, or what was there where it refuses.
 -- `exported-words` of proofs/Exported.antt: the exported function promises it
 abbrev pub wordsAfter : Reply → List ℕ → List ℕ
-wordsAfter r words = cond (isRefused r) words (putAt words 0 (listedIn r ++ replicate (22 - length (listedIn r)) 0))
+wordsAfter r words = cond (isRefused r) words (putAt words 0 (listedIn r ++ replicate (ownWidth - length (listedIn r)) 0))
 
 -- ---- executions
 -- an array, and the calls that led to it with their answers, newest first
@@ -74,9 +75,9 @@ pub data Execution : List ℕ → List Entry → Type 0 where
   -- the first array is one that `tables::initial::initial` leaves
   started : {a : List ℕ} → tablesOf a ≡ initialTables → Execution a []
   -- a call through the entry point, `calls::answer`, with what it promises. Its IDs have the interface's types
-  answered : {a b after : List ℕ} {h : List Entry} {r : Request} {result : OwnIds} → Execution a h → Fits r
-      → CallPromise result a b after (stepOf byLiftedMaps (tablesOf a) r)
-      → Execution b (record { request = r; reply = callReply result; buffer = after } ∷ h)
+  answered : {a b after : List ℕ} {h : List Entry} {r : Request} {response : Response} → Execution a h → Fits r
+      → CallPromise response a b after (stepOf byLiftedMaps (tablesOf a) r)
+      → Execution b (record { request = r; reply = callReply response; buffer = after } ∷ h)
   -- a call through an exported function, with what it promises. The number that it answers is that of this reply (`Numbered`)
   exported : {a b after : List ℕ} {h : List Entry} {r : Request} → Execution a h → Fits r → (code : ℕ)
       → ExportPromise code a b (r .buffer) after (r .call) (r .text) (r .list)

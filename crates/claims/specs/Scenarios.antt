@@ -16,8 +16,8 @@ use Rattle.records.specs.declared.Process.{Process}
 use Rattle.records.specs.declared.MapState.the-variants.{Unwritten, Written}
 use Rattle.records.specs.declared.IdMap.{IdMap}
 use Rattle.records.specs.declared.Namespace.{Namespace}
-use Rattle.records.specs.Records.{freeNamespace, freeProcess}
-use Rattle.tables.specs.Tables.{State, firstProcess, rootNamespace}
+use Rattle.records.specs.Records.{freeNamespace, freeProcess, maxGroups}
+use Rattle.tables.specs.Tables.{State, firstProcess, rootNamespace, processPlaces, namespacePlaces}
 use Rattle.tables.specs.Reply.{Reply, refused, done, child, newNamespace, yes′, no′, bytes, id, unmapped}
 use Rattle.credentials.specs.declared.translate.Way.the-variants.{Out}
 use Rattle.calls.specs.declared.Call.{Call}
@@ -94,7 +94,7 @@ process n u g set = record {
   namespace = n;
   users = record { real = u; effective = u; saved = u };
   groups = record { real = g; effective = g; saved = g };
-  supplementary = record { count = 0; ids = replicate 16 0 };
+  supplementary = record { count = 0; ids = replicate maxGroups 0 };
   permitted = record { bits = set };
   effective = record { bits = set };
 }
@@ -219,8 +219,8 @@ abbrev pub expected : Scenario → Result
 expected c = record {
   told = reverse (c .entries);
   tables = record {
-    processes = c .processes ++ replicate (128 - length (c .processes)) freeProcess;
-    namespaces = c .namespaces ++ replicate (64 - length (c .namespaces)) freeNamespace;
+    processes = c .processes ++ replicate (processPlaces - length (c .processes)) freeProcess;
+    namespaces = c .namespaces ++ replicate (namespacePlaces - length (c .namespaces)) freeNamespace;
     liftedUsers = [];
     liftedGroups = [];
   };

@@ -3,9 +3,12 @@ use crate::output::put_byte;
 use crate::output::put_bytes;
 use crate::output::put_number;
 use crate::output::put_quoted;
+use calls::CallAnswer;
+use calls::Response;
 use credentials::own::OwnIds;
 use records::GroupList;
 use records::Ids;
+use records::MAX_GROUPS;
 use tables::answer::Answer;
 use tables::answer::Errno;
 
@@ -36,7 +39,7 @@ fn put_groups(out: &mut [u8], at: usize, groups: GroupList) -> usize {
     let count = groups.count;
     let mut end = at;
     let mut i: usize = 0;
-    while i < 16 {
+    while i < MAX_GROUPS {
         if count <= i as u64 {
             return end;
         }
@@ -47,10 +50,10 @@ fn put_groups(out: &mut [u8], at: usize, groups: GroupList) -> usize {
     end
 }
 
-fn put_own(out: &mut [u8], at: usize, r: OwnIds) -> usize {
-    let users = r.users;
-    let groups = r.groups;
-    let supplementary = r.supplementary;
+fn put_own(out: &mut [u8], at: usize, own: OwnIds) -> usize {
+    let users = own.users;
+    let groups = own.groups;
+    let supplementary = own.supplementary;
     let a = put_bytes(out, at, b"uid");
     let b = put_ids(out, a, users);
     let c = put_bytes(out, b, b" gid");
@@ -65,8 +68,7 @@ fn put_named(out: &mut [u8], at: usize, name: &[u8], n: u64) -> usize {
     put_number(out, end, n)
 }
 
-fn put_words(out: &mut [u8], at: usize, r: OwnIds) -> usize {
-    let answer = r.answer;
+fn put_plain(out: &mut [u8], at: usize, answer: Answer) -> usize {
     match answer {
         Answer::Refused(e) => put_errno(out, at, e),
         Answer::Done => put_bytes(out, at, b"done"),
@@ -81,17 +83,24 @@ fn put_words(out: &mut [u8], at: usize, r: OwnIds) -> usize {
         Answer::Length(n) => put_named(out, at, b"length", n as u64),
         Answer::Id(x) => put_named(out, at, b"id", x as u64),
         Answer::Unmapped => put_bytes(out, at, b"unmapped"),
-        Answer::Own => put_own(out, at, r),
     }
 }
 
-pub fn put_answer(out: &mut [u8], at: usize, r: OwnIds) -> usize {
+fn put_words(out: &mut [u8], at: usize, r: Response) -> usize {
+    let answer = r.answer;
+    match answer {
+        CallAnswer::Plain(a) => put_plain(out, at, a),
+        CallAnswer::Own => put_own(out, at, r.ids),
+    }
+}
+
+pub fn put_answer(out: &mut [u8], at: usize, r: Response) -> usize {
     let end = put_words(out, at, r);
     put_byte(out, end, b'\n')
 }
 
 // The answer of a read, with the whole buffer after it.
-pub fn put_read(out: &mut [u8], at: usize, r: OwnIds, buffer: &[u8]) -> usize {
+pub fn put_read(out: &mut [u8], at: usize, r: Response, buffer: &[u8]) -> usize {
     let words = put_words(out, at, r);
     let end = put_quoted(out, words, buffer);
     put_byte(out, end, b'\n')

@@ -10,11 +10,11 @@ use crate::texts::Text;
 use crate::tokens;
 use crate::tokens::Next;
 use calls::Call;
-use credentials::own::OwnIds;
+use calls::Response;
 use tables::Tables;
 
 // Makes a call with what is lent beside it.
-fn make(t: &mut Tables, c: Call, text: &[u8], list: &[u32], buffer: &mut [u8]) -> OwnIds {
+fn make(t: &mut Tables, c: Call, text: &[u8], list: &[u32], buffer: &mut [u8]) -> Response {
     calls::answer(t, c, text, list, buffer)
 }
 

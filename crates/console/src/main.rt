@@ -1,4 +1,5 @@
 // Reads calls from standard input, a line for each, and writes an answer line for each: docs/console.md has the form.
+use tables::TABLES_WIDTH;
 use tables::Tables;
 
 mod answers;
@@ -135,7 +136,7 @@ fn serve(t: &mut Tables, line: &mut [u8], scratch: &mut [u8], out: &mut [u8]) {
 }
 
 fn main() {
-    let mut t = [0u64; 18880];
+    let mut t = [0u64; TABLES_WIDTH];
     tables::initial::initial(&mut t);
     let mut line = [0u8; ROOM];
     let mut scratch = [0u8; ROOM];
