@@ -6,65 +6,65 @@ use Prim.Native.Nat.{ℕ, zero, suc, _^_, _≤_, _<_}
 use native.Mathlib.Omega.{arith}
 use lib.Dec.{eqb, ltb, leb}
 use borrow.Author.Tests.{eqb-true, eqb-false, lt-ltb, le-ltb, ltb-false, ltb-true, lt-leb}
-use Rattle.capability.specs.Sets.{holds, fullSet, emptySet, allBelow, isWithin, powersBelow, collect, loweredTo}
+use Rattle.capability.specs.Sets.{capLastCap, wordBits, holds, fullSet, emptySet, allBelow, isWithin, powersBelow, collect, loweredTo}
 use Rattle.prelude.proofs.Tests.{by-test, test-same, and-left, and-right, and-implied, or-use, or-make}
 use Rattle.capability.proofs.Bits.{isSet, bits-same, powers-set, powers-small}
 
 -- A capability in a set.
-pub holds-low : (a n : ℕ) → n < 64 → holds a n ≡ isSet a n
+pub holds-low : (a n : ℕ) → n < wordBits → holds a n ≡ isSet a n
 unfolding holds
-holds-low a n h = rw (lt-ltb n 64 h)
+holds-low a n h = rw (lt-ltb n wordBits h)
 
-pub holds-high : (a n : ℕ) → 64 ≤ n → holds a n ≡ false
+pub holds-high : (a n : ℕ) → wordBits ≤ n → holds a n ≡ false
 unfolding holds
-holds-high a n h = rw (le-ltb n 64 h)
+holds-high a n h = rw (le-ltb n wordBits h)
 
-pub holds-below : (a n : ℕ) → holds a n ≡ true → n < 64
-holds-below a n e = by-test (ltb n 64) (λ t. ltb-true n 64 t) (λ t. absurd (true≢false (sym e ∙ holds-high a n (ltb-false n 64 t))))
+pub holds-below : (a n : ℕ) → holds a n ≡ true → n < wordBits
+holds-below a n e = by-test (ltb n wordBits) (λ t. ltb-true n wordBits t) (λ t. absurd (true≢false (sym e ∙ holds-high a n (ltb-false n wordBits t))))
 
 -- two sets with the same capabilities are one
-pub holds-same : (a b : ℕ) → a < 2 ^ 64 → b < 2 ^ 64 → ((n : ℕ) → n < 64 → holds a n ≡ holds b n) → a ≡ b
-holds-same a b p q h = bits-same 64 a b p q (λ n l. sym (holds-low a n l) ∙ h n l ∙ holds-low b n l)
+pub holds-same : (a b : ℕ) → a < 2 ^ 64 → b < 2 ^ 64 → ((n : ℕ) → n < wordBits → holds a n ≡ holds b n) → a ≡ b
+holds-same a b p q h = bits-same wordBits a b p q (λ n l. sym (holds-low a n l) ∙ h n l ∙ holds-low b n l)
 
 -- A set that is collected.
 pub collect-small : (p : ℕ → Bool) → collect p < 2 ^ 64
 unfolding collect
-collect-small p = powers-small 64 p
+collect-small p = powers-small wordBits p
 
-pub collect-holds : (p : ℕ → Bool) (n : ℕ) → holds (collect p) n ≡ (ltb n 64 && p n)
+pub collect-holds : (p : ℕ → Bool) (n : ℕ) → holds (collect p) n ≡ (ltb n wordBits && p n)
 unfolding collect
 collect-holds p n =
-    by-test (ltb n 64)
-    (λ t. let l = ltb-true n 64 t in rw t (holds-low (powersBelow 64 p) n l ∙ powers-set 64 n p l))
-    (λ t. rw t (holds-high (powersBelow 64 p) n (ltb-false n 64 t)))
+    by-test (ltb n wordBits)
+    (λ t. let l = ltb-true n wordBits t in rw t (holds-low (powersBelow wordBits p) n l ∙ powers-set wordBits n p l))
+    (λ t. rw t (holds-high (powersBelow wordBits p) n (ltb-false n wordBits t)))
 
 -- the set with the capabilities of which p holds is the one that is collected
-pub collect-same : (a : ℕ) (p : ℕ → Bool) → a < 2 ^ 64 → ((n : ℕ) → n < 64 → holds a n ≡ p n) → a ≡ collect p
-collect-same a p small h = holds-same a (collect p) small (collect-small p) (λ n l. h n l ∙ sym (rw (lt-ltb n 64 l) at (collect-holds p n)))
+pub collect-same : (a : ℕ) (p : ℕ → Bool) → a < 2 ^ 64 → ((n : ℕ) → n < wordBits → holds a n ≡ p n) → a ≡ collect p
+collect-same a p small h = holds-same a (collect p) small (collect-small p) (λ n l. h n l ∙ sym (rw (lt-ltb n wordBits l) at (collect-holds p n)))
 
 -- a part of a set, collected from it
 collect-part : (a : ℕ) (q : ℕ → Bool) (n : ℕ) → holds (collect (λ n. holds a n && q n)) n ≡ (holds a n && q n)
 collect-part a q n =
     collect-holds (λ n. holds a n && q n) n
-    ∙ and-implied (ltb n 64) (holds a n && q n) (λ t. lt-ltb n 64 (holds-below a n (and-left (holds a n) (q n) t)))
+    ∙ and-implied (ltb n wordBits) (holds a n && q n) (λ t. lt-ltb n wordBits (holds-below a n (and-left (holds a n) (q n) t)))
 
 -- The full set and the empty set.
-full-collected : fullSet ≡ collect (λ n. leb n 36)
+full-collected : fullSet ≡ collect (λ n. leb n capLastCap)
 unfolding collect powersBelow
 full-collected = refl
 
 -- the full set has capabilities 0 to 36, and no other
-pub full-holds : (n : ℕ) → holds fullSet n ≡ leb n 36
+pub full-holds : (n : ℕ) → holds fullSet n ≡ leb n capLastCap
 full-holds n =
-    ap (λ (s : ℕ). holds s n) full-collected ∙ collect-holds (λ n. leb n 36) n
-    ∙ by-test (ltb n 64) (λ t. rw t) (λ t. let h = ltb-false n 64 t in rw (t, lt-leb n 36 (omega arith)))
+    ap (λ (s : ℕ). holds s n) full-collected ∙ collect-holds (λ n. leb n capLastCap) n
+    ∙ by-test (ltb n wordBits) (λ t. rw t) (λ t. let h = ltb-false n wordBits t in rw (t, lt-leb n capLastCap (omega arith)))
 
 empty-collected : emptySet ≡ collect (λ n. false)
 unfolding collect powersBelow
 empty-collected = refl
 
 pub empty-holds : (n : ℕ) → holds emptySet n ≡ false
-empty-holds n = ap (λ (s : ℕ). holds s n) empty-collected ∙ collect-holds (λ n. false) n ∙ and-false (ltb n 64)
+empty-holds n = ap (λ (s : ℕ). holds s n) empty-collected ∙ collect-holds (λ n. false) n ∙ and-false (ltb n wordBits)
 
 -- A set within another.
 all-each : (k : ℕ) (p : ℕ → Bool) → allBelow k p ≡ true → (n : ℕ) → n < k → p n ≡ true
@@ -84,8 +84,8 @@ each-all (suc k) p h = rw (h k (omega arith)) (each-all k p (λ n l. h n (omega 
 pub within-each : (a b : ℕ) → (isWithin a b ≡ true) ↔ ((n : ℕ) → holds a n ≡ true → holds b n ≡ true)
 unfolding isWithin
 within-each a b = (
-  (λ t n h. or-use (holds a n) (holds b n) (all-each 64 (λ n. not (holds a n) || holds b n) t n (holds-below a n h)) h),
-  λ h. each-all 64 (λ n. not (holds a n) || holds b n) (λ n l. or-make (holds a n) (holds b n) (h n)),
+  (λ t n h. or-use (holds a n) (holds b n) (all-each wordBits (λ n. not (holds a n) || holds b n) t n (holds-below a n h)) h),
+  λ h. each-all wordBits (λ n. not (holds a n) || holds b n) (λ n l. or-make (holds a n) (holds b n) (h n)),
 )
 
 pub within-refl : (a : ℕ) → isWithin a a ≡ true

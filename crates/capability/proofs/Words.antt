@@ -7,24 +7,24 @@ use lib.Dec.{eqb}
 use lib.Bits.{bitAnd, and-le-l}
 use borrow.Author.Needs.{needs}
 use borrow.Author.Tests.{eqb-true, eq-eqb}
-use Rattle.capability.specs.Sets.{holds, isWithin, loweredTo}
+use Rattle.capability.specs.Sets.{wordBits, holds, isWithin, loweredTo}
 use Rattle.capability.specs.declared.CapabilitySet.{CapabilitySet}
 use Rattle.prelude.proofs.Tests.{test-same, and-right, and-implied}
 use Rattle.capability.proofs.Bits.{set-shift, set-and}
 use Rattle.capability.proofs.Sets.{holds-low, holds-high, holds-below, holds-same, collect-same, within-each}
 
 -- `(bits >> n) & 1 == 1`
-pub has-low : (a n : ℕ) → n < 64 → eqb (bitAnd (a / 2 ^ n) 1) 1 ≡ holds a n
+pub has-low : (a n : ℕ) → n < wordBits → eqb (bitAnd (a / 2 ^ n) 1) 1 ≡ holds a n
 has-low a n h = set-shift a n ∙ sym (holds-low a n h)
 
-pub has-high : (a n : ℕ) → 64 ≤ n → false ≡ holds a n
+pub has-high : (a n : ℕ) → wordBits ≤ n → false ≡ holds a n
 has-high a n h = sym (holds-high a n h)
 
 -- `a & b`
 and-small : (a b : ℕ) → a < 2 ^ 64 → bitAnd a b < 2 ^ 64
 and-small a b h = omega (arith, and-le-l a b)
 
-and-holds : (a b n : ℕ) → n < 64 → holds (bitAnd a b) n ≡ (holds a n && holds b n)
+and-holds : (a b n : ℕ) → n < wordBits → holds (bitAnd a b) n ≡ (holds a n && holds b n)
 and-holds a b n h = rw (holds-low (bitAnd a b) n h, holds-low a n h, holds-low b n h) (set-and a b n)
 
 -- `a & b == a`

@@ -18,9 +18,13 @@ capSysAdmin = 21
 abbrev pub capLastCap : ℕ
 capLastCap = 36
 
+-- A set is a word of 64 bits.
+abbrev pub wordBits : ℕ
+wordBits = 64
+
 -- Whether capability n is in the set: bit n is set. A set has no capability above 63.
 unfoldable pub holds : ℕ → ℕ → Bool
-holds bits n = ltb n 64 && eqb (bits / 2 ^ n % 2) 1
+holds bits n = ltb n wordBits && eqb (bits / 2 ^ n % 2) 1
 
 -- The full set of capabilities is 0 to 36, written 0000001fffffffff in document 01.
 abbrev pub fullSet : ℕ
@@ -37,7 +41,7 @@ allBelow (suc k) p = p k && allBelow k p
 
 -- Whether every capability in a is in b.
 unfoldable pub isWithin : ℕ → ℕ → Bool
-isWithin a b = allBelow 64 (λ n. not (holds a n) || holds b n)
+isWithin a b = allBelow wordBits (λ n. not (holds a n) || holds b n)
 
 -- The sum of 2 ^ n over the numbers n below k of which p holds.
 unfoldable pub powersBelow : ℕ → (ℕ → Bool) → ℕ
@@ -46,7 +50,7 @@ powersBelow (suc k) p = cond (p k) (2 ^ k) 0 + powersBelow k p
 
 -- The set of the capabilities, 0 to 63, of which p holds.
 unfoldable pub collect : (ℕ → Bool) → ℕ
-collect p = powersBelow 64 p
+collect p = powersBelow wordBits p
 
 -- The capabilities that are in both: a drop of capabilities, which never adds one.
 unfoldable pub loweredTo : ℕ → ℕ → ℕ

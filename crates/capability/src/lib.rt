@@ -11,6 +11,9 @@ pub const CAP_SYS_ADMIN: u32 = 21;
 // The highest number that a capability has.
 pub const CAP_LAST_CAP: u32 = 36;
 
+// A set is a word of 64 bits.
+const WORD_BITS: u32 = 64;
+
 pub struct CapabilitySet {
     pub bits: u64,
 }
@@ -33,7 +36,7 @@ impl CapabilitySet {
     pub fn has(self, capability: u32) -> bool
         ensures { λ r. ⌜ r ≡ holds (self .bits) capability ⌝ }
     {
-        if capability < 64 {
+        if capability < WORD_BITS {
             (self.bits >> capability) & 1 == 1
         } else {
             false

@@ -158,7 +158,7 @@ module _ (up : ℕ → ℕ) (maps : Kind → ℕ → Option (List Line)) (lifted
     unfolding out
     root-out n z q h =
         ap (λ (m : Lifted). out (m .lines) z) (ap (lifted k) q ∙ o .root k)
-        ∙ rw (lt-ltb ((z + 4294967296) % 4294967296) noId (omega arith)) (ap Id (omega arith))
+        ∙ rw (lt-ltb ((z + 2 ^ 32) % 2 ^ 32) noId (omega arith)) (ap Id (omega arith))
 
     -- a base lies above
     base-step : (n : ℕ) → level (up n) < level n → ((up n ≡ 0 → ⊥) → level (base (up n)) < level (up n)) → Step (up n) (orNone (maps k n)) (lifted k (up n)) (lifted k n) → level (base n) < level n

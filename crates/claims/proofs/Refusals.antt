@@ -4,6 +4,7 @@ use mathlib.Core.Path.{_≡_, refl, sym, ap, _∙_, subst}
 use mathlib.Core.Bool.{Bool, true, false, cond, true≢false}
 use mathlib.Core.List.{List}
 use lib.Dec.{ltb}
+use Rattle.capability.specs.Sets.{capLastCap}
 use Rattle.prelude.specs.Parts.{fitsAt, putAt}
 use Rattle.prelude.proofs.Tests.{by-test}
 use Rattle.idmap.specs.declared.Translated.{Translated}
@@ -75,7 +76,7 @@ module _ (by : Translation) (s : State) (buffer : List ℕ) where
   call-refuses (Capable c n number) text list =
       found-case Asked (callerNamed s c) (refuses s buffer 3 is-3) (λ i e.
       found-case Asked (namespaceNamed s i n) (refuses s buffer 3 is-3) (λ m f.
-      by-test (ltb 36 number)
+      by-test (ltb capLastCap number)
       (λ t. rw t (refuses s buffer 22 is-22))
       (λ t. rw t (answers s s buffer _ _ (question (capableIn s (processAt s i) m number))))))
   call-refuses (Drop c p e) text list = drop-case by s Stored (refuses s buffer) c p e (λ i f. answers s _ buffer _ _ refl)

@@ -1,5 +1,5 @@
 -- The tables give what the history gives. Assumes nothing.
-use Prim.Native.Nat.{ℕ, suc}
+use Prim.Native.Nat.{ℕ}
 use mathlib.Core.Path.{_≡_}
 use mathlib.Core.Bool.{Bool}
 use mathlib.Core.List.{List, []}
@@ -14,6 +14,7 @@ use Rattle.records.specs.declared.MapState.the-variants.{Unwritten, Written}
 use Rattle.records.specs.declared.IdMap.{IdMap}
 use Rattle.records.specs.Records.{idsIn, mapIn}
 use Rattle.tables.specs.Tables.{State, processAt, namespaceAt, processPlaces, namespacePlaces}
+use Rattle.tables.specs.Find.{processNumber, namespaceNumber}
 use Rattle.claims.specs.Events.{Event}
 use Rattle.claims.specs.Words.{Held, isProcess, isNamespace, placeOf, parentOf, levelOf, writtenOf, heldOf}
 
@@ -38,21 +39,20 @@ abbrev pub stateFor : Option (List Line) → MapState
 stateFor none = Unwritten
 stateFor (some ls) = Written (length ls)
 
--- tables of 128 places for processes and 64 for namespaces, in which process i + 1 stands at place i and namespace n at place n: exactly those
--- are live that are processes and namespaces, each process has its namespace and its IDs of both kinds, each namespace its parent, its level and
--- its maps of both kinds
+-- the tables of all places, in each of which the process or the namespace of its number stands: exactly those are live that are processes and
+-- namespaces, each process has its namespace and its IDs of both kinds, each namespace its parent, its level and its maps of both kinds
 pub record Agrees (s : State) (isP isN : ℕ → Bool) (place up level : ℕ → ℕ) (maps : Kind → ℕ → Option (List Line)) (carries : Kind → ℕ → Held) : Type 0 where
   pub process-places : length (s .processes) ≡ processPlaces
   pub namespace-places : length (s .namespaces) ≡ namespacePlaces
-  pub process-live : (i : ℕ) → processAt s i .live ≡ isP (suc i)
-  pub process-place : (i : ℕ) → processAt s i .namespace ≡ place (suc i)
-  pub process-ids : (k : Kind) (i : ℕ) → heldIn k (processAt s i) ≡ carries k (suc i)
-  pub process-count : (i : ℕ) → processAt s i .supplementary .count ≡ length (carries Group (suc i) .supplementary)
-  pub namespace-live : (n : ℕ) → namespaceAt s n .live ≡ isN n
-  pub namespace-parent : (n : ℕ) → namespaceAt s n .parent ≡ up n
-  pub namespace-level : (n : ℕ) → namespaceAt s n .level ≡ level n
-  pub namespace-map : (k : Kind) (n : ℕ) → writtenIn (mapIn k (namespaceAt s n)) ≡ maps k n
-  pub namespace-state : (k : Kind) (n : ℕ) → mapIn k (namespaceAt s n) .state ≡ stateFor (maps k n)
+  pub process-live : (i : ℕ) → processAt s i .live ≡ isP (processNumber i)
+  pub process-place : (i : ℕ) → namespaceNumber (processAt s i .namespace) ≡ place (processNumber i)
+  pub process-ids : (k : Kind) (i : ℕ) → heldIn k (processAt s i) ≡ carries k (processNumber i)
+  pub process-count : (i : ℕ) → processAt s i .supplementary .count ≡ length (carries Group (processNumber i) .supplementary)
+  pub namespace-live : (i : ℕ) → namespaceAt s i .live ≡ isN (namespaceNumber i)
+  pub namespace-parent : (i : ℕ) → namespaceNumber (namespaceAt s i .parent) ≡ up (namespaceNumber i)
+  pub namespace-level : (i : ℕ) → namespaceAt s i .level ≡ level (namespaceNumber i)
+  pub namespace-map : (k : Kind) (i : ℕ) → writtenIn (mapIn k (namespaceAt s i)) ≡ maps k (namespaceNumber i)
+  pub namespace-state : (k : Kind) (i : ℕ) → mapIn k (namespaceAt s i) .state ≡ stateFor (maps k (namespaceNumber i))
 
 -- the tables agree with a list of events
 abbrev pub Agreed : State → List Event → Type 0

@@ -3,14 +3,15 @@ use mathlib.Core.Path.{_≡_}
 use Prim.Native.Nat.{_-_}
 use lib.ListN.{length}
 use borrow.Author.Needs.{needs}
+use Rattle.records.specs.Records.{maxGroups}
 use Rattle.console.proofs.answers.put_groups.Statement.{statement}
 use Rattle.console.proofs.answers.put_groups.Tie as tie
 
 abbrev Inv-loop : tie.InvT-loop
-Inv-loop out₀ at ids count end₀ i₀ out end i = (length ids ≡ 16) × (length out ≡ length out₀)
+Inv-loop out₀ at ids count end₀ i₀ out end i = (length ids ≡ maxGroups) × (length out ≡ length out₀)
 
 abbrev μ-loop : tie.MeasureT-loop
-μ-loop out₀ at ids count end₀ i₀ out end i = 16 - i
+μ-loop out₀ at ids count end₀ i₀ out end i = maxGroups - i
 
 pub put-groups-spec : {M : Type 1} → statement M
 put-groups-spec =
