@@ -7,6 +7,9 @@ use crate::Line;
 use crate::MAX_LINES;
 use crate::NO_ID;
 
+// The most that a start and a count may add up to.
+const MOST_SUM: u64 = NO_ID as u64;
+
 pub fn least(a: u64, b: u64) -> u64
     ensures { λ r. ⌜ r ≡ min a b ⌝ }
 {
@@ -23,8 +26,8 @@ pub fn most(a: u64, b: u64) -> u64
 fn fits(l: Line) -> bool
     ensures { λ r. ⌜ r ≡ fitsOf l ⌝ }
 {
-    (l.inside as u64) + (l.count as u64) <= NO_ID as u64
-        && (l.parent as u64) + (l.count as u64) <= NO_ID as u64
+    (l.inside as u64) + (l.count as u64) <= MOST_SUM
+        && (l.parent as u64) + (l.count as u64) <= MOST_SUM
 }
 
 // The count is over 0, and both sides fit.

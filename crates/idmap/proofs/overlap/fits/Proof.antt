@@ -9,10 +9,8 @@ fits-spec =
     (λ c. search overlaps)  -- cast-if1
     (λ c. search overlaps)  -- cast-if1-2
     (λ c. search overlaps)  -- add-if1
-    (λ c. search overlaps)  -- cast-if1-3
     (λ c. search overlaps)  -- cast-result
     (λ c. search overlaps)  -- cast-result-2
     (λ c. search overlaps)  -- add-result
-    (λ c. search overlaps)  -- cast-result-3
     (λ c. search overlaps)  -- returns
     (λ c. search overlaps))  -- returns-2
