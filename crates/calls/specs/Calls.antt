@@ -106,8 +106,9 @@ answerBy by s (Translate k w c n x) text list buffer = asked s (translateReply b
 abbrev pub answerOf : Translation → State → Request → Step
 answerOf by s r = answerBy by s (r .call) (r .text) (r .list) (r .buffer)
 
--- what the entry point promises of its response r: its answer, the tables and the buffer are the step's, the response holds no other IDs than that
--- answer's, and a refusal leaves every word of the lent array as it was. `one-response` of proofs/OneResponse.antt: it is one value
+-- what the entry point promises of its response r: its answer, the tables and the buffer are the step's, the response
+-- holds no other IDs than that answer's, and a refusal leaves every word of the lent array as it was. `one-response` of
+-- proofs/OneResponse.antt: it is one value
 pub record CallPromise (r : Response) (entry exit after : List ℕ) (step : Step) : Type 0 where
   pub outcome : _≡_ {A = Step} (record { reply = callReply r; tables = tablesOf exit; buffer = after }) step
   pub whole : r .ids ≡ listedIds (step .reply)

@@ -1,4 +1,5 @@
--- What allowed an event: the facts that its call had tested. Every theorem over lists of calls goes by these and opens no call. Assumes nothing.
+-- What allowed an event: the facts that its call had tested. Every theorem over lists of calls goes by these and opens
+-- no call. Assumes nothing.
 use Prim.Native.Nat.{ℕ, zero, suc, _+_, _≤_, _<_, _^_}
 use mathlib.Core.Path.{_≡_, refl}
 use mathlib.Core.Bool.{true, false}

@@ -1,4 +1,5 @@
--- What the code keeps beside the maps is what a history gives, and how a store keeps it so. No claim speaks of it. Assumes nothing.
+-- What the code keeps beside the maps is what a history gives, and how a store keeps it so. No claim speaks of it.
+-- Assumes nothing.
 use Prim.Native.Nat.{ℕ, _<_}
 use mathlib.Core.Path.{_≡_, refl, sym, ap, _∙_}
 use mathlib.Core.Bool.{cond, _&&_}

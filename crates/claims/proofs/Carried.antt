@@ -1,5 +1,5 @@
--- Every ID that a process under a top-level namespace carries is mapped there, or was carried in by it or by one that it descends from.
--- Assumes nothing.
+-- Every ID that a process under a top-level namespace carries is mapped there, or was carried in by it or by one that
+-- it descends from. Assumes nothing.
 use Prim.Native.Nat.{ℕ, zero, suc, _≤_, _<_, _^_}
 use mathlib.Core.Path.{_≡_, refl, sym, ap, _∙_, subst}
 use mathlib.Core.Bool.{true, _&&_}

@@ -1,5 +1,5 @@
--- What each call that may store can come to: a refusal of document 01's table, or its one success with the facts that it had found. A fact about
--- every call is proved by these cases. Assumes nothing.
+-- What each call that may store can come to: a refusal of document 01's table, or its one success with the facts that
+-- it had found. A fact about every call is proved by these cases. Assumes nothing.
 use Prim.Native.Nat.{ℕ, _+_}
 use mathlib.Core.Path.{_≡_, refl}
 use mathlib.Core.Bool.{Bool, true, false, cond}

@@ -29,7 +29,8 @@ use Rattle.claims.specs.TopLevel.{TopLevel, Stands, Has, Descends, Enter
 use Rattle.claims.specs.History.{runFrom, historyFrom, history, events}
 use Rattle.claims.specs.Scenarios.{plain, fork, unshare, setIds, writeMap, bytesOf, line}
 
--- process 2 takes user 1000 and makes a top-level namespace whose map does not have 1000; it forks 3; a fork of 1 joins from outside
+-- process 2 takes user 1000 and makes a top-level namespace whose map does not have 1000; it forks 3; a fork of 1 joins
+-- from outside
 abbrev entering : List Request
 entering =
     fork 1 ∷ setIds User 2 1000 ∷ unshare 2 ∷ writeMap User 1 2 "0 100000 10" ∷ fork 2 ∷ fork 1 ∷ plain (Setns 4 1) ∷ []

@@ -1,4 +1,5 @@
--- The writes of the map files and of the setgroups file: what each leaves agrees with its history, and it was allowed. Assumes nothing.
+-- The writes of the map files and of the setgroups file: what each leaves agrees with its history, and it was allowed.
+-- Assumes nothing.
 use Prim.Native.Nat.{ℕ, zero, suc, _-_, _<_}
 use mathlib.Core.Path.{_≡_, refl, sym, ap, _∙_, subst}
 use mathlib.Core.Bool.{Bool, true, false, cond, _&&_, true≢false}

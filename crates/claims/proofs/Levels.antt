@@ -1,5 +1,6 @@
--- Translation level by level over any parents and lines whose maps are good and whose levels fall from a mapped namespace to its parent:
--- the lookups give what the relations say, each has one result, and the way out passes every namespace above. Assumes nothing.
+-- Translation level by level over any parents and lines whose maps are good and whose levels fall from a mapped
+-- namespace to its parent: the lookups give what the relations say, each has one result, and the way out passes every
+-- namespace above. Assumes nothing.
 use Prim.Native.Nat.{ℕ, zero, suc, _≤_, _<_, _^_}
 use mathlib.Core.Path.{_≡_, refl, sym, ap, _∙_, subst}
 use mathlib.Core.Bool.{true}

@@ -1,5 +1,5 @@
--- Lifted maps give what the maps give level by level: what is kept of them, whatever gives parents and maps, and that each kind of event keeps
--- it. Assumes nothing.
+-- Lifted maps give what the maps give level by level: what is kept of them, whatever gives parents and maps, and that
+-- each kind of event keeps it. Assumes nothing.
 use Prim.Native.Nat.{ℕ, zero, suc, _+_, _≤_, _<_, _%_, _^_}
 use mathlib.Core.Path.{_≡_, refl, sym, ap, _∙_, subst}
 use mathlib.Core.Bool.{Bool, true, false, cond, _&&_}

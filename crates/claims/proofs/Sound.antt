@@ -1,4 +1,5 @@
--- What is sound of processes, namespaces and maps, whatever gives them, and that each kind of event keeps it. Assumes nothing.
+-- What is sound of processes, namespaces and maps, whatever gives them, and that each kind of event keeps it. Assumes
+-- nothing.
 use Prim.Native.Nat.{ℕ, suc, _≤_, _<_}
 use mathlib.Core.Path.{_≡_, refl, sym, ap, _∙_, subst}
 use mathlib.Core.Bool.{Bool, true, false, cond, _&&_, true≢false}
@@ -26,7 +27,8 @@ abbrev pub Counted : Option (List Line) → Type 0
 Counted none = Unit {0}
 Counted (some ls) = (1 ≤ length ls) × (length ls ≤ maxLines)
 
--- isP, isN: which numbers are processes and namespaces; place, up, level: a process's namespace, a namespace's parent and level
+-- isP, isN: which numbers are processes and namespaces; place, up, level: a process's namespace, a namespace's parent
+-- and level
 pub record Sound (isP isN : ℕ → Bool) (place up level : ℕ → ℕ) (maps : Kind → ℕ → Option (List Line)) : Type 0 where
   pub no-zero : isP 0 ≡ false
   pub root : isN 0 ≡ true

@@ -1,4 +1,5 @@
--- Fork, clone, unshare and setns, and the reads and questions: what each leaves agrees with its history, and it was allowed. Assumes nothing.
+-- Fork, clone, unshare and setns, and the reads and questions: what each leaves agrees with its history, and it was
+-- allowed. Assumes nothing.
 use Prim.Native.Nat.{ℕ, zero, suc, _+_}
 use mathlib.Core.Path.{_≡_, refl, sym, ap, _∙_}
 use mathlib.Core.Bool.{Bool, true, false, cond, true≢false}

@@ -39,8 +39,9 @@ abbrev pub stateFor : Option (List Line) → MapState
 stateFor none = Unwritten
 stateFor (some ls) = Written (length ls)
 
--- the tables of all places, in each of which the process or the namespace of its number stands: exactly those are live that are processes and
--- namespaces, each process has its namespace and its IDs of both kinds, each namespace its parent, its level and its maps of both kinds
+-- the tables of all places, in each of which the process or the namespace of its number stands: exactly those are live
+-- that are processes and namespaces, each process has its namespace and its IDs of both kinds, each namespace its
+-- parent, its level and its maps of both kinds
 pub record Agrees (s : State) (isP isN : ℕ → Bool) (place up level : ℕ → ℕ) (maps : Kind → ℕ → Option (List Line)) (carries : Kind → ℕ → Held) : Type 0 where
   pub process-places : length (s .processes) ≡ processPlaces
   pub namespace-places : length (s .namespaces) ≡ namespacePlaces

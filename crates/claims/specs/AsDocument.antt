@@ -1,6 +1,6 @@
--- What the code keeps for speed does not show. It translates by lifted maps, document 01 level by level: on tables that a list of calls leaves it is one,
--- which `as-document` of proofs/AsDocument.antt proves of every list. And document 01's step reads no lifted map: `unread` of proofs/Unread.antt.
--- Assumes nothing.
+-- What the code keeps for speed does not show. It translates by lifted maps, document 01 level by level: on tables that
+-- a list of calls leaves it is one, which `as-document` of proofs/AsDocument.antt proves of every list. And document
+-- 01's step reads no lifted map: `unread` of proofs/Unread.antt. Assumes nothing.
 use mathlib.Core.Path.{_≡_}
 use mathlib.Core.List.{List, []}
 use Rattle.tables.specs.Tables.{State, initialTables}

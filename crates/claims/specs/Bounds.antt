@@ -1,6 +1,6 @@
--- The definitions of the calls are total: they bound their walks, and a place past the end reads as free. On tables that a list of calls leaves no
--- bound is met, so that the definitions are document 01's; and what stands in these tables is what document 01 lets stand there. `bounds` of
--- proofs/Bounds.antt proves it of every list. Assumes nothing.
+-- The definitions of the calls are total: they bound their walks, and a place past the end reads as free. On tables
+-- that a list of calls leaves no bound is met, so that the definitions are document 01's; and what stands in these
+-- tables is what document 01 lets stand there. `bounds` of proofs/Bounds.antt proves it of every list. Assumes nothing.
 use Prim.Native.Nat.{ℕ, _≤_, _<_, _^_}
 use mathlib.Core.Path.{_≡_}
 use mathlib.Core.Bool.{true}

@@ -1,4 +1,5 @@
--- What a call and its answer say: document 01, 'Lists of calls'. Every definition of demand 3's words goes over these. Assumes nothing.
+-- What a call and its answer say: document 01, 'Lists of calls'. Every definition of demand 3's words goes over these.
+-- Assumes nothing.
 use Prim.Native.Nat.{ℕ}
 use mathlib.Core.List.{List}
 use Rattle.records.specs.declared.Kind.{Kind}

@@ -1,5 +1,6 @@
--- What a host has and sees that keeps its tables by this code alone, call after call, through the entry point or through exported functions: document
--- 01's run of these calls. `executes` of proofs/Executes.antt proves it. Assumes nothing.
+-- What a host has and sees that keeps its tables by this code alone, call after call, through the entry point or
+-- through exported functions: document 01's run of these calls. `executes` of proofs/Executes.antt proves it. Assumes
+-- nothing.
 use Prim.Native.Nat.{ℕ, _-_}
 use mathlib.Core.Path.{_≡_}
 use mathlib.Core.Bool.{true, cond}
@@ -23,7 +24,8 @@ use Rattle.claims.specs.Holds.{Holds}
 use Rattle.claims.specs.Bounds.{Bounds}
 
 -- ---- the exported functions
--- what the exported function of a call promises. It answers the number code; the array was entry and is exit, the buffer was before and is after
+-- what the exported function of a call promises. It answers the number code; the array was entry and is exit, the
+-- buffer was before and is after
 module _ (code : ℕ) (entry exit before after : List ℕ) where
   -- one that may store, and is lent no buffer
   abbrev pub Stores : Outcome → Type 0
@@ -57,15 +59,16 @@ module _ (code : ℕ) (entry exit before after : List ℕ) where
   ExportPromise (OwnIdsOf c) text list = Tells (quick ownIdsOf (tablesOf entry) c)
   ExportPromise (Translate k w c n x) text list = Asks (quick translateReply (tablesOf entry) k w c n x)
 
--- a step whose answer is seen as its number. `exported-step` of proofs/Exported.antt: every exported function promises one
+-- a step whose answer is seen as its number. `exported-step` of proofs/Exported.antt: every exported function promises
+-- one
 pub record Numbered (code : ℕ) (entry exit after : List ℕ) (step : Step) : Type 0 where
   pub answer : code ≡ codeOf (step .reply)
   pub tables : tablesOf exit ≡ step .tables
   pub buffer : after ≡ step .buffer
   pub kept : isRefused (step .reply) ≡ true → exit ≡ entry
 
--- what the own-ID question leaves in the words that are lent to it: the IDs of its reply in order and 0 past them, or what was there where it refuses.
--- `exported-words` of proofs/Exported.antt: the exported function promises it
+-- what the own-ID question leaves in the words that are lent to it: the IDs of its reply in order and 0 past them, or
+-- what was there where it refuses. `exported-words` of proofs/Exported.antt: the exported function promises it
 abbrev pub wordsAfter : Reply → List ℕ → List ℕ
 wordsAfter r words = cond (isRefused r) words (putAt words 0 (listedIn r ++ replicate (ownWidth - length (listedIn r)) 0))
 
@@ -78,7 +81,8 @@ pub data Execution : List ℕ → List Entry → Type 0 where
   answered : {a b after : List ℕ} {h : List Entry} {r : Request} {response : Response} → Execution a h → Fits r
       → CallPromise response a b after (stepOf byLiftedMaps (tablesOf a) r)
       → Execution b (record { request = r; reply = callReply response; buffer = after } ∷ h)
-  -- a call through an exported function, with what it promises. The number that it answers is that of this reply (`Numbered`)
+  -- a call through an exported function, with what it promises. The number that it answers is that of this reply
+  -- (`Numbered`)
   exported : {a b after : List ℕ} {h : List Entry} {r : Request} → Execution a h → Fits r → (code : ℕ)
       → ExportPromise code a b (r .buffer) after (r .call) (r .text) (r .list)
       → Execution b (record { request = r; reply = stepOf byLiftedMaps (tablesOf a) r .reply; buffer = after } ∷ h)

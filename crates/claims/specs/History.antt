@@ -36,8 +36,8 @@ module _ (by : State → Translation) where
   historyFrom s h [] = h
   historyFrom s h (r ∷ rs) = historyFrom (stepOf s r .tables) (entryOf r (stepOf s r) ∷ h) rs
 
--- the tables after a list of calls from the fresh start, and the list's history, with document 01's translation. That what a host does with the code has
--- these tables and this history is `executes` of proofs/Executes.antt
+-- the tables after a list of calls from the fresh start, and the list's history, with document 01's translation. That
+-- what a host does with the code has these tables and this history is `executes` of proofs/Executes.antt
 abbrev pub run : List Request → State
 run rs = runFrom byLevels initialTables rs
 
@@ -73,8 +73,8 @@ AllFit [] = Unit {0}
 AllFit (r ∷ rs) = Fits r × AllFit rs
 
 -- ---- events
--- what follows from an answer, by what is to follow from "done", a child, a child in a new namespace, and a new namespace; from any other
--- answer nothing follows
+-- what follows from an answer, by what is to follow from "done", a child, a child in a new namespace, and a new
+-- namespace; from any other answer nothing follows
 abbrev pub byReply : Event → (ℕ → Event) → (ℕ → ℕ → Event) → (ℕ → Event) → Reply → Event
 byReply d f g n done = d
 byReply d f g n (child q) = f q

@@ -1,4 +1,5 @@
--- What holds after every list of calls: demand 3, sentence by sentence. `theorem` of proofs/Theorem.antt proves it of every list. Assumes nothing.
+-- What holds after every list of calls: demand 3, sentence by sentence. `theorem` of proofs/Theorem.antt proves it of
+-- every list. Assumes nothing.
 use Prim.Native.Nat.{ℕ, _<_, _^_}
 use mathlib.Core.Path.{_≡_}
 use mathlib.Core.Bool.{true, false}
@@ -18,7 +19,8 @@ use Rattle.claims.specs.TopLevel.{TopLevel, IsUnder, OutOf, BackOf, Stan
 use Rattle.claims.specs.History.{Entry, run, history, events}
 use Rattle.claims.specs.Agreement.{Agreed}
 
--- an answer that is no refusal is an ID exactly where the translation has that ID, and 'unmapped' exactly where it has none
+-- an answer that is no refusal is an ID exactly where the translation has that ID, and 'unmapped' exactly where it has
+-- none
 abbrev pub Answers : Reply → (ℕ → Type 0) → Type 0
 Answers r R = isRefused r ≡ false → ((y : ℕ) → (r ≡ id y) ↔ R y) × ((r ≡ unmapped) ↔ ((y : ℕ) → R y → ⊥))
 
@@ -51,15 +53,18 @@ module _ (rs : List Request) where
   abbrev h : List Event
   h = events (history rs)
 
-  -- everything is meant of user IDs by the user maps and, separately, of group IDs, supplementary groups included, by the group maps: k is the kind
+  -- everything is meant of user IDs by the user maps and, separately, of group IDs, supplementary groups included, by
+  -- the group maps: k is the kind
   pub record Holds : Type 0 where
-    -- after the list the tables give each namespace its parent and its maps, each process its namespace and its IDs, and have no other
+    -- after the list the tables give each namespace its parent and its maps, each process its namespace and its IDs,
+    -- and have no other
     pub tables-agree : Agreed (run rs) h
     -- processes are numbered from 1
     pub numbered : isProcess h 0 ≡ false
     -- each translate in the list that is not refused answers by the translation, with the maps of that moment
     pub translates : (new old : List Entry) (e : Entry) → history rs ≡ new ++ (e ∷ old) → Translates (events old) e
-    -- what an ID is looked up to stand for, where an ID change or a setgroups says what a process carries, is what it stands for
+    -- what an ID is looked up to stand for, where an ID change or a setgroups says what a process carries, is what it
+    -- stands for
     pub looked-up : (k : Kind) (n x y : ℕ) → x < 2 ^ 32 → (standsFor k h n x ≡ Id y) ↔ OutOf k h n x y
     -- in every namespace two different mapped IDs never stand for one kernel ID
     pub one-to-one : (k : Kind) (n x x′ y : ℕ) → OutOf k h n x y → OutOf k h n x′ y → x ≡ x′
@@ -70,15 +75,17 @@ module _ (rs : List Request) where
     pub out-back : (k : Kind) (n x y : ℕ) → OutOf k h n x y → BackOf k h n y x
     -- coming back from a kernel ID mapped there and going out returns that one
     pub back-out : (k : Kind) (n x y : ℕ) → BackOf k h n y x → OutOf k h n x y
-    -- if two top-level namespaces' written maps share no kernel ID, then none that is mapped in one, or in any namespace nested at any depth
-    -- under it, is mapped in the other or in any namespace under that
+    -- if two top-level namespaces' written maps share no kernel ID, then none that is mapped in one, or in any
+    -- namespace nested at any depth under it, is mapped in the other or in any namespace under that
     pub disjoint : (k : Kind) (a b : ℕ) → (a ≡ b → ⊥) → TopLevel h a → TopLevel h b
         → ((y : ℕ) → OnParentSide (writtenLines k h a) y → OnParentSide (writtenLines k h b) y → ⊥)
         → (m n y : ℕ) → IsUnder h a m → IsUnder h b n → Stands k h m y → Stands k h n y → ⊥
-    -- if a process was in a top-level namespace, or in anything nested under it, after any call of the list, it is still in it or under it at the
-    -- list's end, and that is a top-level namespace still. The histories after the calls of the list are the parts that the whole history ends in, since the newest stands first
+    -- if a process was in a top-level namespace, or in anything nested under it, after any call of the list, it is
+    -- still in it or under it at the list's end, and that is a top-level namespace still. The histories after the calls
+    -- of the list are the parts that the whole history ends in, since the newest stands first
     pub stays : (new old : List Event) → h ≡ new ++ old → (p b : ℕ) → isProcess old p ≡ true → TopLevel old b
         → IsUnder old b (placeOf old p) → TopLevel h b × IsUnder h b (placeOf h p)
-    -- each kernel ID that it carries is mapped there, or was carried into it by that process or by one that it descends from
+    -- each kernel ID that it carries is mapped there, or was carried into it by that process or by one that it descends
+    -- from
     pub carried : (k : Kind) (p b y : ℕ) → isProcess h p ≡ true → TopLevel h b → IsUnder h b (placeOf h p) → Has y (held (heldOf k h p))
         → Stands k h b y ⊎ ((q : ℕ) × ((q ≡ p) ⊎ Descends h p q) × Entered k h b q y)

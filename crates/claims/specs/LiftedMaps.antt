@@ -1,5 +1,5 @@
--- The lifted map of a namespace, by the calls and their answers: what the code keeps. NOT to be believed: no claim speaks of it, and that translation by it is
--- document 01's is proved (`AsDocument`). Assumes nothing.
+-- The lifted map of a namespace, by the calls and their answers: what the code keeps. NOT to be believed: no claim
+-- speaks of it, and that translation by it is document 01's is proved (`AsDocument`). Assumes nothing.
 use Prim.Native.Nat.{ℕ}
 use mathlib.Core.Bool.{cond, _&&_}
 use mathlib.Core.List.{List, [], _∷_}

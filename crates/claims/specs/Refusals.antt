@@ -1,5 +1,6 @@
--- Demand 1's second sentence, of any tables and any translation: a refusal has a number of document 01's table, changes no table and writes nothing into the buffer.
--- `refusals` of proofs/Refusals.antt proves it of every call. Assumes nothing.
+-- Demand 1's second sentence, of any tables and any translation: a refusal has a number of document 01's table, changes
+-- no table and writes nothing into the buffer. `refusals` of proofs/Refusals.antt proves it of every call. Assumes
+-- nothing.
 use Prim.Native.Nat.{ℕ}
 use mathlib.Core.Path.{_≡_}
 use mathlib.Core.List.{List, [], _∷_}

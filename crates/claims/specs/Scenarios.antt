@@ -1,5 +1,6 @@
--- The bench runs of document 01 that are marked P, as one table: the calls, the reply that each is to get, and the tables that they are to
--- leave. `scenarios-come-out` of proofs/Scenarios.antt proves that the whole table comes out. Assumes nothing.
+-- The bench runs of document 01 that are marked P, as one table: the calls, the reply that each is to get, and the
+-- tables that they are to leave. `scenarios-come-out` of proofs/Scenarios.antt proves that the whole table comes out.
+-- Assumes nothing.
 use Prim.Native.Nat.{ℕ, _-_}
 use Prim.Native.Char.{code}
 use Prim.Native.String.{String, [] as empty, _∷_ as _then_}
@@ -81,7 +82,8 @@ request ⇒ reply = record { request = request; reply = reply; buffer = request 
 abbrev pub _leaving_ : Entry → String → Entry
 row leaving text = record { request = row .request; reply = row .reply; buffer = bytesOf text }
 
--- ---- scenarios: calls on the initial tables, and all processes and namespaces that there are to be after them, in the order of their numbers
+-- ---- scenarios: calls on the initial tables, and all processes and namespaces that there are to be after them, in the
+-- order of their numbers
 pub record Scenario : Type 0 where
   pub entries : List Entry
   pub processes : List Process
@@ -137,7 +139,8 @@ eachKind f = f User ++ f Group
 -- ---- the table, in document 01's order; above each part stands its line
 abbrev pub scenarios : List Scenario
 scenarios =
-    -- P: 2 writes user map `0 1000 1`: done; 2 reads `         0       1000          1` and a newline. A second write: 1.
+    -- P: 2 writes user map `0 1000 1`: done; 2 reads `         0       1000          1` and a newline. A second write:
+    -- 1.
     scenario
     (writeMap User 2 2 "0 1000 1" ⇒ done
     ∷ readMap User 2 2 36 ⇒ bytes 33 leaving "         0       1000          1\n..."
@@ -186,7 +189,8 @@ scenarios =
     ∷ [])
     -- P: 2 unshares before any map is written: 1.
     ++ (scenario (unshare 2 ⇒ refused 1 ∷ []) unwritten ∷ [])
-    -- P: 1 holds 21 in namespace 1; 2 does not in 0. A process in 0 with user 1000 and empty sets does in 1; with user 1001 not.
+    -- P: 1 holds 21 in namespace 1; 2 does not in 0. A process in 0 with user 1000 and empty sets does in 1; with user
+    -- 1001 not.
     ++ (record {
       entries = setup ++ (
           capable 1 1 21 ⇒ yes′
@@ -203,7 +207,8 @@ scenarios =
     } ∷ [])
 
 -- ---- what is said of the table
--- what comes out of calls: the calls with their answers, newest first, and the tables at the end but for what the code keeps beside the maps
+-- what comes out of calls: the calls with their answers, newest first, and the tables at the end but for what the code
+-- keeps beside the maps
 pub record Result : Type 0 where
   pub told : List Entry
   pub tables : State

@@ -50,8 +50,8 @@ Descends (mapped k o text ∷ h) p q = Descends h p q
 Descends (changed k c new ∷ h) p q = Descends h p q
 Descends (grouped c list ∷ h) p q = Descends h p q
 
--- process q carried ID y into top-level namespace b: it had y when the clone or unshare that made b put it there, or when a setns brought it
--- from outside into b or anything nested under it
+-- process q carried ID y into top-level namespace b: it had y when the clone or unshare that made b put it there, or
+-- when a setns brought it from outside into b or anything nested under it
 unfoldable pub Entered : Kind → List Event → ℕ → ℕ → ℕ → Type 0
 Entered k [] b q y = ⊥
 Entered k (other ∷ h) b q y = Entered k h b q y

@@ -1,4 +1,5 @@
--- Translation level by level, as document 01 has it: over any parents and any lines, and `byLevels` over those of the tables. Assumes nothing.
+-- Translation level by level, as document 01 has it: over any parents and any lines, and `byLevels` over those of the
+-- tables. Assumes nothing.
 use Prim.Native.Nat.{ℕ, zero, suc, _+_, _<_}
 use mathlib.Core.Path.{_≡_}
 use mathlib.Core.Bool.{cond}
@@ -46,7 +47,8 @@ module _ (up : ℕ → ℕ) (lines : ℕ → List Line) where
   backBy zero n y = cond (eqb n 0) (itself y) Unmapped
   backBy (suc k) n y = cond (eqb n 0) (itself y) (thenId (backBy k (up n) y) (λ z. back (lines n) z))
 
--- document 01's translation: by the parents and the written lines that the tables have, in as many steps as the level says
+-- document 01's translation: by the parents and the written lines that the tables have, in as many steps as the level
+-- says
 unfoldable pub byLevels : State → Translation
 byLevels s = record {
   out = λ (kind : Kind) (n x : ℕ). outBy (λ (m : ℕ). namespaceAt s m .parent) (λ (m : ℕ). linesOf (mapIn kind (namespaceAt s m))) (heightOf s n) n x;

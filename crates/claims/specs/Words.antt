@@ -1,5 +1,6 @@
--- The words of demand 3, each by the calls and their answers alone: document 01, 'Lists of calls'. A list of events has the newest first, so
--- each definition says what the newest does and leaves the rest to the events before it. Assumes nothing.
+-- The words of demand 3, each by the calls and their answers alone: document 01, 'Lists of calls'. A list of events has
+-- the newest first, so each definition says what the newest does and leaves the rest to the events before it. Assumes
+-- nothing.
 use Prim.Native.Nat.{ℕ, suc}
 use mathlib.Core.Bool.{Bool, true, false, cond, _&&_}
 use mathlib.Core.List.{List, [], _∷_, map}
@@ -42,8 +43,8 @@ isNamespace (mapped k q text ∷ h) m = isNamespace h m
 isNamespace (changed k c new ∷ h) m = isNamespace h m
 isNamespace (grouped c list ∷ h) m = isNamespace h m
 
--- a process is where the last unshare or setns that moved it put it, else where its fork (its caller's namespace) or clone did; process 1
--- starts in namespace 0
+-- a process is where the last unshare or setns that moved it put it, else where its fork (its caller's namespace) or
+-- clone did; process 1 starts in namespace 0
 unfoldable pub placeOf : List Event → ℕ → ℕ
 placeOf [] p = 0
 placeOf (other ∷ h) p = placeOf h p
@@ -85,7 +86,8 @@ sameKind User Group = false
 sameKind Group User = false
 sameKind Group Group = true
 
--- a namespace's map is the lines of the map write for it answered 'done', unwritten until then; namespace 0's is its fixed line
+-- a namespace's map is the lines of the map write for it answered 'done', unwritten until then; namespace 0's is its
+-- fixed line
 unfoldable pub writtenOf : Kind → List Event → ℕ → Option (List Line)
 writtenOf k [] m = cond (eqb m 0) (some (fixedLine ∷ [])) none
 writtenOf k (other ∷ h) m = writtenOf k h m
@@ -109,7 +111,8 @@ writtenLines k h m = orNone (writtenOf k h m)
 abbrev pub standsFor : Kind → List Event → ℕ → ℕ → Translated
 standsFor k h n x = outBy (parentOf h) (writtenLines k h) (levelOf h n) n x
 
--- the IDs of a kind that a process carries, all station-wide: real, effective and saved, and the supplementary ones, which only groups have
+-- the IDs of a kind that a process carries, all station-wide: real, effective and saved, and the supplementary ones,
+-- which only groups have
 pub record Held : Type 0 where
   pub three : Ids
   pub supplementary : List ℕ
@@ -117,7 +120,8 @@ pub record Held : Type 0 where
 abbrev pub held : Held → List ℕ
 held c = c .three .real ∷ c .three .effective ∷ c .three .saved ∷ c .supplementary
 
--- one of the three IDs of an ID change: 'no ID' leaves it as it is, another is what it stands for in the caller's namespace
+-- one of the three IDs of an ID change: 'no ID' leaves it as it is, another is what it stands for in the caller's
+-- namespace
 abbrev pub chosenOf : Kind → List Event → ℕ → ℕ → ℕ → Translated
 chosenOf k h n x old = cond (eqb x noId) (Id old) (standsFor k h n x)
 
@@ -128,8 +132,8 @@ changedIds k h n new old = record {
   saved = orNoId (chosenOf k h n (new .saved) (old .saved));
 }
 
--- a process carries the IDs that its start and its own calls not refused left it: process 1 starts with 0, 0, 0 and no groups; a fork or a
--- clone gives the child the caller's
+-- a process carries the IDs that its start and its own calls not refused left it: process 1 starts with 0, 0, 0 and no
+-- groups; a fork or a clone gives the child the caller's
 unfoldable pub heldOf : Kind → List Event → ℕ → Held
 heldOf k [] p = record { three = allZero; supplementary = [] }
 heldOf k (other ∷ h) p = heldOf k h p

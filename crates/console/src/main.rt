@@ -69,8 +69,8 @@ fn take_byte(
     }
 }
 
-// Takes a piece of the input, whose first line may have begun in the piece before it, and answers how much of its last line the line's
-// buffer has.
+// Takes a piece of the input, whose first line may have begun in the piece before it, and answers how much of its last
+// line the line's buffer has.
 fn take(
     t: &mut Tables,
     piece: &[u8],

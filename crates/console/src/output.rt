@@ -1,5 +1,5 @@
-// Output, gathered in a lent buffer that is written when it is full. Each function is told how much of the buffer is in use, and
-// answers how much is then.
+// Output, gathered in a lent buffer that is written when it is full. Each function is told how much of the buffer is in
+// use, and answers how much is then.
 use libc::STDOUT_FILENO;
 
 pub fn flush(out: &[u8], at: usize) {

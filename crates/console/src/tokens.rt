@@ -134,8 +134,8 @@ fn read_number(token: &[u8]) -> Number {
     decimal(token)
 }
 
-// What stands next on a line: a number and where it ends, a text and where its first byte stands, something that is neither, or
-// nothing.
+// What stands next on a line: a number and where it ends, a text and where its first byte stands, something that is
+// neither, or nothing.
 pub enum Next {
     Number(u64, usize),
     Text(usize),

@@ -1,4 +1,5 @@
--- The capability question and drop, in the words of the code: each law's premises are what a place knows. Assumes nothing.
+-- The capability question and drop, in the words of the code: each law's premises are what a place knows. Assumes
+-- nothing.
 use Prim.Native.Nat.{ℕ, _≤_, _<_, _^_}
 use mathlib.Core.Path.{_≡_, refl, sym, _∙_}
 use mathlib.Core.Bool.{Bool, true, false}

@@ -1,5 +1,5 @@
--- How lists of groups get into a batch of IDs and out of it. That this gives the lists of specs/Calls.antt, which alone are to be believed, is
--- proved. Assumes nothing.
+-- How lists of groups get into a batch of IDs and out of it. That this gives the lists of specs/Calls.antt, which alone
+-- are to be believed, is proved. Assumes nothing.
 use Prim.Native.Nat.{ℕ, _+_, _-_}
 use mathlib.Core.Bool.{Bool, true, false, cond}
 use mathlib.Core.List.{List, [], _∷_, _++_}

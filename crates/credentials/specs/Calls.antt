@@ -1,5 +1,5 @@
--- ID changes, setgroups, own IDs, the capability question, drop and translate: document 01, 'The calls, and the order in which each refuses'.
--- Assumes nothing.
+-- ID changes, setgroups, own IDs, the capability question, drop and translate: document 01, 'The calls, and the order
+-- in which each refuses'. Assumes nothing.
 use Prim.Native.Nat.{ℕ, _-_}
 use mathlib.Core.Bool.{Bool, true, false, cond, not, _&&_, _||_}
 use mathlib.Core.List.{List, [], _++_, map}
@@ -49,8 +49,8 @@ isOneOf x i = eqb x (i .real) || (eqb x (i .effective) || eqb x (i .saved))
 unfoldable pub allOneOf : Ids → Ids → Bool
 allOneOf new old = isOneOf (new .real) old && (isOneOf (new .effective) old && isOneOf (new .saved) old)
 
--- the sets after a change of user IDs, where zero is the namespace's ID 0: if one of the three was it and none is now, both sets are emptied;
--- if the effective ID was it and is not now, the effective set is emptied
+-- the sets after a change of user IDs, where zero is the namespace's ID 0: if one of the three was it and none is now,
+-- both sets are emptied; if the effective ID was it and is not now, the effective set is emptied
 abbrev pub losesAll : Translated → Ids → Ids → Bool
 losesAll Unmapped old new = false
 losesAll (Id z) old new = isOneOf z old && not (isOneOf z new)

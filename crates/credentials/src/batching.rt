@@ -78,7 +78,8 @@ fn group_places(batch: Batch) -> [u32; MAX_GROUPS]
     ids
 }
 
-// The first `count` IDs of a batch as a list, as many as it has places for at most. The places past them are emptied from the last one on.
+// The first `count` IDs of a batch as a list, as many as it has places for at most. The places past them are emptied
+// from the last one on.
 pub(crate) fn group_list(batch: Batch, count: usize) -> GroupList
     ensures { λ r. ⌜ r ≡ groupList (take (min count maxGroups) batch) ⌝ }
 {

@@ -18,15 +18,17 @@ use tables::find::named_namespace;
 use tables::processes::process_at;
 use tables::processes::process_put;
 
-// Whether the caller holds a capability in a namespace. Refuses: 3 no caller or no such namespace, 22 the number is over 36.
+// Whether the caller holds a capability in a namespace. Refuses: 3 no caller or no such namespace, 22 the number is
+// over 36.
 // Ruled out, for instance: an answer for number 37; yes for no.
 pub fn ask(t: &Tables, caller: u64, name: u64, number: u32) -> Answer
     ensures { λ r. ⌜ replyOf r ≡ capableReply (tablesOf (now (t .entry))) caller name number ⌝ }
 {
-    // The caller must exist, then the namespace named, else 3.
+    // First always: the caller must exist, else 3.
     let Found::At(place) = find_caller(t, caller) else {
         return Answer::Refused(Errno::ESRCH);
     };
+    // Then the namespace named, else 3.
     let Found::At(n) = named_namespace(t, place, name) else {
         return Answer::Refused(Errno::ESRCH);
     };
@@ -64,12 +66,13 @@ fn lowered(p: Process, permitted: u64, effective: u64) -> Process
     }
 }
 
-// A drop of capabilities. Refuses: 3 no caller, 1 where the permitted set would gain one or the effective set is no part of it.
+// A drop of capabilities. Refuses: 3 no caller, 1 where the permitted set would gain one or the effective set is no
+// part of it.
 // Ruled out, for instance: an effective set beyond the new permitted one; a permitted set that is not lowered.
 pub fn drop(t: &mut Tables, caller: u64, permitted: u64, effective: u64) -> Answer
     ensures { λ r. ⌜ Promise r (now (t .entry)) (now (t .exit)) (dropOf (tablesOf (now (t .entry))) caller permitted effective) ⌝ }
 {
-    // The caller must exist, else 3.
+    // First always: the caller must exist, else 3.
     let Found::At(place) = find_caller(t, caller) else {
         return Answer::Refused(Errno::ESRCH);
     };

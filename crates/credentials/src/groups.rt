@@ -82,13 +82,13 @@ fn with_list(p: Process, list: GroupList) -> Process
     }
 }
 
-// Replaces the caller's supplementary groups. Refuses: 3 no caller; 1 without SETGID in its own namespace, or where that has no group map
-// yet or denies setgroups; 22 over 16 groups, or where one is not mapped.
+// Replaces the caller's supplementary groups. Refuses: 3 no caller; 1 without SETGID in its own namespace, or where
+// that has no group map yet or denies setgroups; 22 over 16 groups, or where one is not mapped.
 // Ruled out, for instance: seventeen groups; a list where setgroups is denied.
 pub fn setgroups(t: &mut Tables, caller: u64, list: &[u32]) -> Answer
     ensures { λ r. ⌜ Promise r (now (t .entry)) (now (t .exit)) (quick setGroupsOf (tablesOf (now (t .entry))) caller (now (list .entry))) ⌝ }
 {
-    // The caller must exist, else 3.
+    // First always: the caller must exist, else 3.
     let Found::At(place) = find_caller(t, caller) else {
         return Answer::Refused(Errno::ESRCH);
     };

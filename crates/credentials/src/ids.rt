@@ -170,8 +170,8 @@ fn permitted(t: &Tables, kind: Kind, p: Process, new: Ids, old: Ids) -> bool
     }
 }
 
-// Sets the caller's real, effective and saved IDs of a kind. Refuses: 3 no caller; 22 an ID that is not mapped; 1 where, without SETUID
-// (SETGID) in its own namespace, one is none of the present three.
+// Sets the caller's real, effective and saved IDs of a kind. Refuses: 3 no caller; 22 an ID that is not mapped; 1
+// where, without SETUID (SETGID) in its own namespace, one is none of the present three.
 // Ruled out, for instance: sets kept when the effective ID 0 is given up; a saved ID that is none of the present three.
 pub fn set_ids(
     t: &mut Tables,
@@ -183,19 +183,21 @@ pub fn set_ids(
 ) -> Answer
     ensures { λ r. ⌜ Promise r (now (t .entry)) (now (t .exit)) (quick setIdsOf (tablesOf (now (t .entry))) kind caller real effective saved) ⌝ }
 {
-    // The caller must exist, else 3.
+    // First always: the caller must exist, else 3.
     let Found::At(place) = find_caller(t, caller) else {
         return Answer::Refused(Errno::ESRCH);
     };
     let p = process_at(t, place);
     let old = ids_in(kind, p);
-    // 4,294,967,295 leaves one as it is; 22 if another given ID has no translation out.
+    // 4,294,967,295 leaves the real ID as it is; 22 if another given one has no translation out.
     let Translated::Id(a) = choose(t, kind, p.namespace, real, old.real) else {
         return Answer::Refused(Errno::EINVAL);
     };
+    // The effective ID alike.
     let Translated::Id(b) = choose(t, kind, p.namespace, effective, old.effective) else {
         return Answer::Refused(Errno::EINVAL);
     };
+    // The saved ID alike.
     let Translated::Id(d) = choose(t, kind, p.namespace, saved, old.saved) else {
         return Answer::Refused(Errno::EINVAL);
     };

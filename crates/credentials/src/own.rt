@@ -124,7 +124,7 @@ fn seen_groups(t: &Tables, namespace: u64, three: Ids, list: GroupList) -> Group
 pub fn own_ids(t: &Tables, caller: u64) -> OwnResult
     ensures { λ r. ⌜ r ≡ quick ownIdsOf (tablesOf (now (t .entry))) caller ⌝ }
 {
-    // The caller must exist, else 3.
+    // First always: the caller must exist, else 3.
     let Found::At(place) = find_caller(t, caller) else {
         return OwnResult {
             answer: OwnAnswer::NotTold(Errno::ESRCH),

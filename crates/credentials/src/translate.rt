@@ -31,15 +31,17 @@ fn turned(t: &Tables, kind: Kind, way: Way, place: u64, id: u32) -> Translated
     }
 }
 
-// The translation of an ID between a namespace and the initial one, or that it has none. Refuses: 3 no caller or no such namespace.
+// The translation of an ID between a namespace and the initial one, or that it has none. Refuses: 3 no caller or no
+// such namespace.
 // Ruled out, for instance: the parent's ID instead of the kernel ID; a refusal of an ID that is not mapped.
 pub fn translate(t: &Tables, kind: Kind, way: Way, caller: u64, name: u64, id: u32) -> Answer
     ensures { λ r. ⌜ replyOf r ≡ quick translateReply (tablesOf (now (t .entry))) kind way caller name id ⌝ }
 {
-    // The caller must exist, then the namespace named, else 3.
+    // First always: the caller must exist, else 3.
     let Found::At(place) = find_caller(t, caller) else {
         return Answer::Refused(Errno::ESRCH);
     };
+    // Then the namespace named, else 3.
     let Found::At(n) = named_namespace(t, place, name) else {
         return Answer::Refused(Errno::ESRCH);
     };

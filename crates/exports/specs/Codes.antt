@@ -24,8 +24,8 @@ negated e = 18446744073709551616 - e
 abbrev pub ownThrees : ℕ
 ownThrees = 6
 
--- the number of an answer: a refusal is negated, as the kernel's own calls have it; unmapped is 4,294,967,295, which is never an ID; own IDs are the
--- number of groups
+-- the number of an answer: a refusal is negated, as the kernel's own calls have it; unmapped is 4,294,967,295, which is
+-- never an ID; own IDs are the number of groups
 abbrev pub codeOf : Reply → ℕ
 codeOf (refused e) = negated e
 codeOf done = 0
@@ -39,7 +39,8 @@ codeOf (id x) = x
 codeOf unmapped = noId
 codeOf (ids l) = length l - ownThrees
 
--- what an exported call that may store promises: the number of its answer, the tables, and that a refusal leaves every word as it was
+-- what an exported call that may store promises: the number of its answer, the tables, and that a refusal leaves every
+-- word as it was
 pub record Coded (code : ℕ) (entry exit : List ℕ) (o : Outcome) : Type 0 where
   pub answer : code ≡ codeOf (o .reply)
   pub tables : tablesOf exit ≡ o .tables
@@ -64,7 +65,8 @@ spaceAfter (id x) old = old
 spaceAfter unmapped old = old
 spaceAfter (ids l) old = old
 
--- ---- own IDs in words: real, effective and saved user ID, the same of the group, and as many places as there may be groups, 0 past the last
+-- ---- own IDs in words: real, effective and saved user ID, the same of the group, and as many places as there may be
+-- groups, 0 past the last
 abbrev pub idsRow : OwnIds → List ℕ
 idsRow o =
     o .users .real ∷ o .users .effective ∷ o .users .saved ∷ o .groups .real ∷ o .groups .effective ∷ o .groups .saved

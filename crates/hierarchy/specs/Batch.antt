@@ -1,5 +1,5 @@
--- Translation of a batch of IDs by lifted maps: what the code does. NOT to be believed: it is the translation of specs/Lifted.antt of each of them.
--- Assumes nothing.
+-- Translation of a batch of IDs by lifted maps: what the code does. NOT to be believed: it is the translation of
+-- specs/Lifted.antt of each of them. Assumes nothing.
 use Prim.Native.Nat.{ℕ}
 use mathlib.Core.Bool.{Bool, true, false, cond}
 use mathlib.Core.List.{List, map}

@@ -1,5 +1,5 @@
--- Translation by lifted maps: what the code does. NOT to be believed: that on tables which calls leave it is `byLevels`, document 01's, for every kind,
--- namespace and number, is proved (`AsDocument` of claims). Assumes nothing.
+-- Translation by lifted maps: what the code does. NOT to be believed: that on tables which calls leave it is
+-- `byLevels`, document 01's, for every kind, namespace and number, is proved (`AsDocument` of claims). Assumes nothing.
 use Prim.Native.Nat.{ℕ, zero, suc, _-_}
 use mathlib.Core.Bool.{cond}
 use mathlib.Core.List.{List}
@@ -41,8 +41,8 @@ fromKernelBy s kind m n y = cond (eqb n 0) (itself y) (thenId (backIn s kind ste
 unfoldable pub fromKernel : State → Kind → ℕ → ℕ → Translated
 fromKernel s kind n y = fromKernelBy s kind (liftedAt s kind n) n y
 
--- what the code stores beside lines that are written as the map of namespace n: the same lifted over the lifted map of the parent. No definition but
--- those of this file reads it. Tables s are those before the write, and t have the map
+-- what the code stores beside lines that are written as the map of namespace n: the same lifted over the lifted map of
+-- the parent. No definition but those of this file reads it. Tables s are those before the write, and t have the map
 abbrev pub beside : State → State → Kind → ℕ → List Line → State
 beside s t kind n ls = putLiftedMap t kind n (liftedOf (liftedAt s kind (namespaceAt s n .parent)) (namespaceAt s n .parent) ls)
 

@@ -16,8 +16,9 @@ unfoldable pub heightOf : State → ℕ → ℕ
 heightOf s n = min (namespaceAt s n .level) maxLevel
 
 -- ---- translation
--- a translation at one moment: by kind and namespace, the kernel ID (document 01: station-wide ID) that an ID of the namespace stands for, and the ID
--- of the namespace that stands for a kernel ID. The definitions of the calls take one. Document 01's is `byLevels` of claims/specs/Translation.antt
+-- a translation at one moment: by kind and namespace, the kernel ID (document 01: station-wide ID) that an ID of the
+-- namespace stands for, and the ID of the namespace that stands for a kernel ID. The definitions of the calls take one.
+-- Document 01's is `byLevels` of claims/specs/Translation.antt
 pub record Translation : Type 0 where
   pub out : Kind → ℕ → ℕ → Translated
   pub back : Kind → ℕ → ℕ → Translated
@@ -31,7 +32,8 @@ itself x = cond (eqb x noId) Unmapped (Id x)
 unfoldable pub ownedBy : ℕ → ℕ → Namespace → Bool
 ownedBy own euid n = eqb (n .parent) own && eqb (n .owner) euid
 
--- document 01: the walk goes up from the named namespace and stops at the first rule that decides. mine: the effective set has it
+-- document 01: the walk goes up from the named namespace and stops at the first rule that decides. mine: the effective
+-- set has it
 unfoldable pub holdsIn : State → ℕ → ℕ → Bool → ℕ → ℕ → Bool
 holdsIn s own euid mine zero n = cond (eqb n own) mine (cond (eqb n 0) false (ownedBy own euid (namespaceAt s n)))
 holdsIn s own euid mine (suc k) n =

@@ -43,7 +43,8 @@ pub struct Known {
     pub found: u32,
 }
 
-// What is found for an ID: what is known already where it is the same one, else a translation, or `other` where there is none.
+// What is found for an ID: what is known already where it is the same one, else a translation, or `other` where there
+// is none.
 pub fn known_for(
     t: &Tables,
     kind: Kind,

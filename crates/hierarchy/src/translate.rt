@@ -53,7 +53,8 @@ fn up(t: &Tables, kind: Kind, place: u64, id: u32) -> Translated
     }
 }
 
-// The kernel ID that an ID of a namespace stands for, by the lines and the base of its lifted map. A list of IDs finds them only once.
+// The kernel ID that an ID of a namespace stands for, by the lines and the base of its lifted map. A list of IDs finds
+// them only once.
 pub fn to_kernel_by(
     t: &Tables,
     kind: Kind,

@@ -131,7 +131,8 @@ module _ (ls : List Line) (start count last at n : ℕ) (small : at < 2 ^ 32) (e
       let f = step-left at last n small end h in
       rw e (fewer-still f z h)
 
--- ---- what it shows: a line that holds the first ID holds as many as it reaches, and none is held where nothing is reached
+-- ---- what it shows: a line that holds the first ID holds as many as it reaches, and none is held where nothing is
+-- reached
 reach-mapped : (ls : List Line) (x i : ℕ) → goodOf ls ≡ true → x < 2 ^ 32 → i < reachOf ls x → x + i < 2 ^ 32 → Mapped ls (x + i)
 unfolding reachOf
 reach-mapped [] x i g small h room = absurd (omega arith)

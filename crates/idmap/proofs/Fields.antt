@@ -1,5 +1,5 @@
--- The numbers of a line, taken from its front: blanks at the front do not count, and the digits at the front are the first number.
--- Assumes nothing.
+-- The numbers of a line, taken from its front: blanks at the front do not count, and the digits at the front are the
+-- first number. Assumes nothing.
 use mathlib.Core.Path.{_≡_, refl, sym, ap, _∙_}
 use mathlib.Core.Bool.{true, false, cond, and-false}
 use mathlib.Core.List.{List, [], _∷_, _++_, append-nil}

@@ -1,4 +1,5 @@
--- The reader's scan of the line at the front of a text gives what the text's definition says of its first piece. Assumes nothing.
+-- The reader's scan of the line at the front of a text gives what the text's definition says of its first piece.
+-- Assumes nothing.
 use mathlib.Core.Path.{_≡_, refl, ap, _∙_}
 use mathlib.Core.Bool.{Bool, true, false, cond}
 use mathlib.Core.List.{List, [], _∷_, _++_}

@@ -1,4 +1,5 @@
--- What one turn of a loop over the lines does, in the words of the code: each law's premises are what a place knows. Assumes nothing.
+-- What one turn of a loop over the lines does, in the words of the code: each law's premises are what a place knows.
+-- Assumes nothing.
 use Prim.Native.Nat.{ℕ, _+_, _-_, _≤_, _<_, _%_, _^_}
 use mathlib.Core.Path.{_≡_, refl, sym, ap, _∙_}
 use mathlib.Core.Bool.{Bool, true, false, cond}

@@ -1,4 +1,5 @@
--- The scans of the reader, turn by turn, in the words of the code: each law's premises are what a place knows. Assumes nothing.
+-- The scans of the reader, turn by turn, in the words of the code: each law's premises are what a place knows. Assumes
+-- nothing.
 use mathlib.Core.Path.{_≡_, refl, sym, _∙_}
 use mathlib.Core.Bool.{Bool, true, false, not}
 use mathlib.Core.List.{List, [], _∷_}

@@ -1,5 +1,5 @@
--- The laws of translation through one map: back undoes out, out undoes back, and both are one to one. Each is stated once, over the
--- lines; the other direction is the same law of the lines with their sides exchanged. Assumes nothing.
+-- The laws of translation through one map: back undoes out, out undoes back, and both are one to one. Each is stated
+-- once, over the lines; the other direction is the same law of the lines with their sides exchanged. Assumes nothing.
 use mathlib.Core.Path.{_≡_, refl, sym, ap, _∙_}
 use mathlib.Core.Bool.{true, false}
 use mathlib.Core.List.{List, [], _∷_, map}

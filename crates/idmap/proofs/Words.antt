@@ -1,4 +1,5 @@
--- Lines kept as words, three to a line: what a loop over them has left, and that the words of lines hold those lines. Assumes nothing.
+-- Lines kept as words, three to a line: what a loop over them has left, and that the words of lines hold those lines.
+-- Assumes nothing.
 use Prim.Native.Nat.{ℕ, suc, _+_, _-_, _≤_, _<_, _^_}
 use mathlib.Core.Path.{_≡_, refl}
 use mathlib.Core.List.{List, [], _∷_}

@@ -11,7 +11,8 @@ use Rattle.idmap.specs.Line.{more, inRange, noLine}
 use Rattle.idmap.specs.Lookup.{out, reachOf}
 use Rattle.idmap.specs.Good.{Within}
 
--- a line that holds the ID at holds last too, or the same is so of the ID past that line's end; in at most k steps past the first line
+-- a line that holds the ID at holds last too, or the same is so of the ID past that line's end; in at most k steps past
+-- the first line
 unfoldable pub coveredIn : ℕ → List Line → ℕ → ℕ → Bool
 coveredIn zero ls at last = inRange last at (reachOf ls at)
 coveredIn (suc k) ls at last =

@@ -13,7 +13,8 @@ less a b = (a + (2 ^ 32 - b)) % 2 ^ 32
 abbrev pub more : ℕ → ℕ → ℕ
 more a b = (a + b) % 2 ^ 32
 
--- document 01: an ID is in a line exactly when the ID minus the line's start, modulo 2 to the 32, is less than the count
+-- document 01: an ID is in a line exactly when the ID minus the line's start, modulo 2 to the 32, is less than the
+-- count
 abbrev pub inRange : ℕ → ℕ → ℕ → Bool
 inRange id start count = ltb (less id start) count
 

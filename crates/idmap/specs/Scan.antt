@@ -1,5 +1,5 @@
--- How the reader goes over a text: what its inner functions answer, from a place on. That this is the text's meaning is proved
--- from specs/Text.antt, which alone is to be believed. Assumes nothing.
+-- How the reader goes over a text: what its inner functions answer, from a place on. That this is the text's meaning is
+-- proved from specs/Text.antt, which alone is to be believed. Assumes nothing.
 use Prim.Native.Nat.{ℕ, suc, _+_, _-_, _*_}
 use mathlib.Core.Bool.{Bool, cond}
 use mathlib.Core.List.{List, [], _∷_}

@@ -1,5 +1,6 @@
-// Lookups of twenty IDs at once through the lines of one map. Each line is tested against all of them, which a processor does for several IDs in one
-// step and without a branch, so that the time depends on the number of lines alone.
+// Lookups of twenty IDs at once through the lines of one map. Each line is tested against all of them, which a
+// processor does for several IDs in one step and without a branch, so that the time depends on the number of lines
+// alone.
 ghost use mathlib.Core.Path.{_≡_};
 ghost use mathlib.Core.List.{map, zipWith};
 ghost use Rattle.idmap.specs.Line.{linesIn};
@@ -40,8 +41,8 @@ fn through(l: Line, ids: Batch, found: Batch) -> Batch
     r
 }
 
-// What the first line that holds it makes of each ID, read out of the namespace or back into it; `other` where no line does. It goes from the last line to
-// the first, so that the first has the last word.
+// What the first line that holds it makes of each ID, read out of the namespace or back into it; `other` where no line
+// does. It goes from the last line to the first, so that the first has the last word.
 fn first_each(words: &[u64], ids: Batch, backward: bool, other: u32) -> Batch
     ensures { λ r. ⌜ r ≡ outEach other (map (facingOf backward) (linesIn (now (words .entry)))) ids ⌝ }
 {

@@ -1,4 +1,5 @@
-// The text of a map that is read: each line as three numbers in columns, and its store into a buffer that the caller lends.
+// The text of a map that is read: each line as three numbers in columns, and its store into a buffer that the caller
+// lends.
 ghost use mathlib.Core.Path.{_≡_};
 ghost use Prim.Native.Nat.{_+_, _≤_};
 ghost use lib.ListN.{length};
@@ -85,7 +86,8 @@ fn store(buffer: &mut [u8], at: usize, text: &[u8])
     }
 }
 
-// Stores the bytes of `text` from place `at` on and answers true. Where they do not all fit, nothing changes and it answers false.
+// Stores the bytes of `text` from place `at` on and answers true. Where they do not all fit, nothing changes and it
+// answers false.
 pub fn put_text(buffer: &mut [u8], at: usize, text: &[u8]) -> bool
     ensures answer { λ r. ⌜ r ≡ fitsAt (now (buffer .entry)) at (now (text .entry)) ⌝ }
     ensures bytes { λ r. ⌜ now (buffer .exit) ≡ putAt (now (buffer .entry)) at (now (text .entry)) ⌝ }
@@ -100,7 +102,8 @@ pub fn put_text(buffer: &mut [u8], at: usize, text: &[u8]) -> bool
     true
 }
 
-// Stores the text of a line from place `at` on and answers true. Where it does not fit, nothing changes and it answers false.
+// Stores the text of a line from place `at` on and answers true. Where it does not fit, nothing changes and it answers
+// false.
 pub fn put_line(buffer: &mut [u8], at: usize, l: Line) -> bool
     ensures answer { λ r. ⌜ r ≡ fitsAt (now (buffer .entry)) at (lineText l) ⌝ }
     ensures bytes { λ r. ⌜ now (buffer .exit) ≡ putAt (now (buffer .entry)) at (lineText l) ⌝ }

@@ -1,4 +1,5 @@
--- The laws of a map composed with the map above it: it is good, and it translates as the one after the other. Assumes nothing.
+-- The laws of a map composed with the map above it: it is good, and it translates as the one after the other. Assumes
+-- nothing.
 use Prim.Native.Nat.{ℕ, _+_, _-_, _<_, _%_, _^_}
 use mathlib.Core.Path.{_≡_, refl, sym, ap, _∙_}
 use mathlib.Core.Bool.{true, false, false≢true}

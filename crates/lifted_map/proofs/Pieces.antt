@@ -1,4 +1,5 @@
--- The piece that a line has in common with a line above: it lies in both, and it holds all that goes through both. Assumes nothing.
+-- The piece that a line has in common with a line above: it lies in both, and it holds all that goes through both.
+-- Assumes nothing.
 use Prim.Native.Nat.{ℕ, _+_, _-_, _≤_, _<_, _^_}
 use mathlib.Core.Path.{_≡_, refl}
 use mathlib.Core.Bool.{true}
@@ -11,7 +12,8 @@ use Rattle.idmap.specs.Good.{Within, Bounded}
 use Rattle.lifted_map.specs.Lift.{startOf, endOf, commonOf}
 use Rattle.idmap.proofs.Interval.{in-interval}
 
--- the piece k of line l and line p above: it lies in l on the inside and in p on the parent side, and the ID between is the same both ways
+-- the piece k of line l and line p above: it lies in l on the inside and in p on the parent side, and the ID between is
+-- the same both ways
 pub record Common (l p k : Line) : Type 0 where
   pub low : l .inside ≤ k .inside
   pub high : k .inside + k .count ≤ l .inside + l .count

@@ -1,4 +1,5 @@
--- How the pieces get into a row, one after the other. NOT to be believed: that these are the lines of specs/Lift.antt is proved. Assumes nothing.
+-- How the pieces get into a row, one after the other. NOT to be believed: that these are the lines of specs/Lift.antt
+-- is proved. Assumes nothing.
 use Prim.Native.Nat.{ℕ}
 use mathlib.Core.Bool.{cond}
 use mathlib.Core.List.{List, [], _∷_, _++_}

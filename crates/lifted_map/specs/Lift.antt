@@ -1,5 +1,6 @@
--- What the code keeps beside a map, and is NOT to be believed: the map lifted over the maps above it, its lines as the pieces that they have in common
--- with those above, so that one search translates through several levels. That it translates as they do is proved. Assumes nothing.
+-- What the code keeps beside a map, and is NOT to be believed: the map lifted over the maps above it, its lines as the
+-- pieces that they have in common with those above, so that one search translates through several levels. That it
+-- translates as they do is proved. Assumes nothing.
 use Prim.Native.Nat.{ℕ, _+_, _-_, _*_, min, max}
 use mathlib.Core.Bool.{cond}
 use mathlib.Core.List.{List, [], _∷_, _++_, map}
@@ -46,8 +47,8 @@ pub record Lifted : Type 0 where
   pub base : ℕ
   pub lines : List Line
 
--- a map of lines ls, lifted over the lifted map of its parent to that one's base. Where this makes too many lines, it is the map as it stands, and
--- its base is the parent
+-- a map of lines ls, lifted over the lifted map of its parent to that one's base. Where this makes too many lines, it
+-- is the map as it stands, and its base is the parent
 unfoldable pub liftedOf : Lifted → ℕ → List Line → Lifted
 liftedOf above parent ls =
     cond (leb (length (composedOf (above .lines) ls)) maxPieces)

@@ -58,8 +58,8 @@ fn put_head(row: &mut LiftedMap, count: usize, base: u64)
     rows::put(row, 0, &words);
 }
 
-// Adds a piece to the `n` that a row has, unless it is empty. Answers how many there are now, or more than there is room for; then nothing is stored
-// any more.
+// Adds a piece to the `n` that a row has, unless it is empty. Answers how many there are now, or more than there is
+// room for; then nothing is stored any more.
 fn add(row: &mut LiftedMap, n: usize, piece: Line) -> usize
     ensures { λ r. ⌜ piecesIn (now (row .exit)) r ≡ added (piecesIn (now (row .entry)) n) piece ⌝ }
 {
@@ -127,8 +127,8 @@ fn put_unlifted(row: &mut LiftedMap, lines: [Line; MAX_LINES], count: usize, par
     put_head(row, end, parent);
 }
 
-// Makes a row the first `count` lines of a map, lifted over the lifted map of the parent, whose lines and base are given. What stood in the row does
-// not count.
+// Makes a row the first `count` lines of a map, lifted over the lifted map of the parent, whose lines and base are
+// given. What stood in the row does not count.
 pub fn lift(
     row: &mut LiftedMap,
     above: &[u64],

@@ -1,4 +1,5 @@
--- Reads of a map and of the setgroups setting, step by step, in the words of the code: each law's premises are what a place knows. Assumes nothing.
+-- Reads of a map and of the setgroups setting, step by step, in the words of the code: each law's premises are what a
+-- place knows. Assumes nothing.
 use Prim.Native.Nat.{ℕ, _+_, _*_, _≤_, _<_, min}
 use mathlib.Core.Path.{_≡_, refl, sym, ap, _∙_}
 use mathlib.Core.Bool.{Bool, true, false}
@@ -13,6 +14,7 @@ use mir.Syntax.{w64}
 use mir.Val.{Fits}
 use borrow.Author.Needs.{needs}
 use borrow.Author.Tests.{eq-eqb, ne-eqb, leb-true, leb-false}
+use Rattle.prelude.proofs.Tests.{not-taken, not-left}
 use Rattle.prelude.proofs.Tests.{by-test}
 use Rattle.prelude.specs.Parts.{fitsAt, putAt}
 use Rattle.prelude.proofs.Parts.{fits-inside, fits-outside, put-inside, put-outside, length-put}
@@ -229,5 +231,7 @@ pub ruleset reading = (
   setting-no-process,
   setting-deny,
   setting-allow,
+  not-taken,
+  not-left,
   needs,
 )

@@ -1,4 +1,5 @@
--- The write of the setgroups setting, step by step, in the words of the code: each law's premises are what a place knows. Assumes nothing.
+-- The write of the setgroups setting, step by step, in the words of the code: each law's premises are what a place
+-- knows. Assumes nothing.
 use Prim.Native.Nat.{ℕ, suc, _+_, _≤_, _<_}
 use mathlib.Core.Path.{_≡_, refl, sym, ap, _∙_}
 use mathlib.Core.Bool.{Bool, true, false, _&&_}

@@ -1,4 +1,5 @@
--- The map files and the setgroups file, written and read: document 01, 'The calls, and the order in which each refuses'. Assumes nothing.
+-- The map files and the setgroups file, written and read: document 01, 'The calls, and the order in which each
+-- refuses'. Assumes nothing.
 use Prim.Native.Nat.{ℕ, min}
 use mathlib.Core.Bool.{Bool, true, false, cond, _&&_, _||_}
 use mathlib.Core.List.{List, [], _∷_, _++_, map}
@@ -36,8 +37,8 @@ use Rattle.hierarchy.specs.Lifted.{beside}
 unfoldable pub isNear : Process → ℕ → Namespace → Bool
 isNear w n target = eqb (w .namespace) n || eqb (w .namespace) (target .parent)
 
--- the lines are one line of count 1 whose parent start is, as a kernel ID, the writer's own effective ID of the kind, the writer's effective
--- user ID is the owner, and for a group map setgroups is denied
+-- the lines are one line of count 1 whose parent start is, as a kernel ID, the writer's own effective ID of the kind,
+-- the writer's effective user ID is the owner, and for a group map setgroups is denied
 abbrev pub isId : Translated → ℕ → Bool
 isId (Id x) y = eqb x y
 isId Unmapped y = false

@@ -98,16 +98,17 @@ fn put_lines(
     }
 }
 
-// Reads the map of a kind of the namespace that process `name` is in. Answers the text's length. Refuses: 3 no caller or no such process; 34 a
-// buffer shorter than the text.
+// Reads the map of a kind of the namespace that process `name` is in. Answers the text's length. Refuses: 3 no caller
+// or no such process; 34 a buffer shorter than the text.
 // Ruled out, for instance: field two in the target itself; 32 bytes of room for a line of 33.
 pub fn read_map(t: &Tables, kind: Kind, caller: u64, name: u64, buffer: &mut [u8]) -> Answer
     ensures { λ r. ⌜ _≡_ {A = ReadOutcome} (record { reply = replyOf r; buffer = now (buffer .exit) }) (quick readMapOf (tablesOf (now (t .entry))) kind caller name (now (buffer .entry))) ⌝ }
 {
-    // The caller must exist, then the process named, else 3.
+    // First always: the caller must exist, else 3.
     let Found::At(reader) = find_caller(t, caller) else {
         return Answer::Refused(Errno::ESRCH);
     };
+    // Then the process named, else 3.
     let Found::At(place) = named_process(t, reader, name) else {
         return Answer::Refused(Errno::ESRCH);
     };
@@ -130,22 +131,24 @@ pub fn read_map(t: &Tables, kind: Kind, caller: u64, name: u64, buffer: &mut [u8
 fn put_word(buffer: &mut [u8], text: &[u8]) -> Answer
     ensures { λ r. ⌜ _≡_ {A = ReadOutcome} (record { reply = replyOf r; buffer = now (buffer .exit) }) (readText (now (text .entry)) (now (buffer .entry))) ⌝ }
 {
-    if put_text(buffer, 0, text) {
-        Answer::Length(text.len())
-    } else {
-        Answer::Refused(Errno::ERANGE)
+    // 34 if the lent buffer is shorter than the text.
+    if !put_text(buffer, 0, text) {
+        return Answer::Refused(Errno::ERANGE);
     }
+    Answer::Length(text.len())
 }
 
-// Reads the setgroups setting of the namespace that process `name` is in: "allow" or "deny" and a newline. Answers and refuses as read_map does.
+// Reads the setgroups setting of the namespace that process `name` is in: "allow" or "deny" and a newline. Answers and
+// refuses as read_map does.
 // Ruled out, for instance: the two words exchanged; a word without its newline.
 pub fn read_setgroups(t: &Tables, caller: u64, name: u64, buffer: &mut [u8]) -> Answer
     ensures { λ r. ⌜ _≡_ {A = ReadOutcome} (record { reply = replyOf r; buffer = now (buffer .exit) }) (readSetgroupsOf (tablesOf (now (t .entry))) caller name (now (buffer .entry))) ⌝ }
 {
-    // The caller must exist, then the process named, else 3.
+    // First always: the caller must exist, else 3.
     let Found::At(reader) = find_caller(t, caller) else {
         return Answer::Refused(Errno::ESRCH);
     };
+    // Then the process named, else 3.
     let Found::At(place) = named_process(t, reader, name) else {
         return Answer::Refused(Errno::ESRCH);
     };

@@ -112,16 +112,18 @@ fn write_to(t: &mut Tables, w: Process, n: u64, text: &[u8]) -> Answer
     }
 }
 
-// Writes the setgroups setting of the namespace that process `name` is in. Refuses: 3 no caller or no such process; 1 without SYS_ADMIN in the
-// target; 22 a text that is neither word; 1 deny where the group map is written; 1 allow where the setting is deny.
+// Writes the setgroups setting of the namespace that process `name` is in. Refuses: 3 no caller or no such process; 1
+// without SYS_ADMIN in the target; 22 a text that is neither word; 1 deny where the group map is written; 1 allow where
+// the setting is deny.
 // Ruled out, for instance: deny over a written group map; allow over deny.
 pub fn write_setgroups(t: &mut Tables, caller: u64, name: u64, text: &[u8]) -> Answer
     ensures { λ r. ⌜ Promise r (now (t .entry)) (now (t .exit)) (writeSetgroupsOf (tablesOf (now (t .entry))) caller name (now (text .entry))) ⌝ }
 {
-    // The caller must exist, then the process named, else 3.
+    // First always: the caller must exist, else 3.
     let Found::At(writer) = find_caller(t, caller) else {
         return Answer::Refused(Errno::ESRCH);
     };
+    // Then the process named, else 3.
     let Found::At(place) = named_process(t, writer, name) else {
         return Answer::Refused(Errno::ESRCH);
     };

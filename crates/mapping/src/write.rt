@@ -165,8 +165,8 @@ fn with_map(kind: Kind, n: Namespace, map: IdMap) -> Namespace
     }
 }
 
-// The write to namespace `n`, whose record is `target`, where the text is to be read: its lines, the writer's right to them and
-// their cover tested, and the map stored.
+// The write to namespace `n`, whose record is `target`, where the text is to be read: its lines, the writer's right to
+// them and their cover tested, and the map stored.
 fn write_lines(
     t: &mut Tables,
     kind: Kind,
@@ -219,16 +219,17 @@ fn write_to(t: &mut Tables, kind: Kind, w: Process, n: u64, text: &[u8]) -> Answ
     if !near(w, n, target) {
         return Answer::Refused(Errno::EPERM);
     }
-    // 22 if the text has 0 or more than 4,095 bytes.
+    // 22 if the text has 0 ..
     if text.len() == 0 {
         return Answer::Refused(Errno::EINVAL);
     }
+    // .. or more than 4,095 bytes.
     if MAX_TEXT_BYTES < text.len() {
         return Answer::Refused(Errno::EINVAL);
     }
-    // 1 if already written.
     let map = map_in(kind, target);
     let state = map.state;
+    // 1 if already written.
     if is_written(state) {
         return Answer::Refused(Errno::EPERM);
     }
@@ -239,18 +240,20 @@ fn write_to(t: &mut Tables, kind: Kind, w: Process, n: u64, text: &[u8]) -> Answ
     write_lines(t, kind, w, n, target, text)
 }
 
-// Writes the map of a kind of the namespace that process `name` is in. Refuses: 3 no caller or no such process; 1 the target is the initial
-// namespace, or the writer is neither in it nor in its parent; 22 a text of 0 or over 4,095 bytes; 1 already written; 1 without SETUID
-// (SETGID) in the target; 22 bad text; 1 without the capability in the parent where the text is no single line of the writer's own; 1 a
-// parent-side ID without a line in the parent's map.
-// Ruled out, for instance: a map stored with IDs that the parent does not map; an empty text told before a writer from elsewhere.
+// Writes the map of a kind of the namespace that process `name` is in. Refuses: 3 no caller or no such process; 1 the
+// target is the initial namespace, or the writer is neither in it nor in its parent; 22 a text of 0 or over 4,095
+// bytes; 1 already written; 1 without SETUID (SETGID) in the target; 22 bad text; 1 without the capability in the
+// parent where the text is no single line of the writer's own; 1 a parent-side ID without a line in the parent's map.
+// Ruled out, for instance: a map stored with IDs that the parent does not map; an empty text told before a writer from
+// elsewhere.
 pub fn write_map(t: &mut Tables, kind: Kind, caller: u64, name: u64, text: &[u8]) -> Answer
     ensures { λ r. ⌜ Promise r (now (t .entry)) (now (t .exit)) (quick writeMapOf (tablesOf (now (t .entry))) kind caller name (now (text .entry))) ⌝ }
 {
-    // The caller must exist, then the process named, else 3.
+    // First always: the caller must exist, else 3.
     let Found::At(writer) = find_caller(t, caller) else {
         return Answer::Refused(Errno::ESRCH);
     };
+    // Then the process named, else 3.
     let Found::At(place) = named_process(t, writer, name) else {
         return Answer::Refused(Errno::ESRCH);
     };

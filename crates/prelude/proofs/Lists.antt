@@ -1,4 +1,5 @@
--- Loops over lists: what a loop over the first n elements has left, and what one that fills a list has made so far. Assumes nothing.
+-- Loops over lists: what a loop over the first n elements has left, and what one that fills a list has made so far.
+-- Assumes nothing.
 use mathlib.Core.Path.{_≡_, refl, sym, ap, _∙_}
 use mathlib.Core.List.{List, [], _∷_, _++_, map, zipWith}
 use Prim.Native.Nat.{ℕ, zero, suc, _+_, _-_, _<_, _≤_, min}

@@ -1,4 +1,5 @@
--- The laws of a part of a list and of a store into one: what is put is there, and everything else is as it was. Assumes nothing.
+-- The laws of a part of a list and of a store into one: what is put is there, and everything else is as it was. Assumes
+-- nothing.
 use Prim.Native.Nat.{ℕ, zero, suc, _+_, _≤_, _<_, _-_}
 use mathlib.Core.Path.{_≡_, sym, ap, _∙_}
 use mathlib.Core.Bool.{true, false}

@@ -1,4 +1,5 @@
--- What each way out of a call means, in the words of the code: a law for each refusal and each success. Assumes nothing.
+-- What each way out of a call means, in the words of the code: a law for each refusal and each success. Assumes
+-- nothing.
 use Prim.Native.Nat.{ℕ, _+_, _≤_, _<_}
 use mathlib.Core.Path.{_≡_, refl, sym, _∙_}
 use mathlib.Core.Bool.{Bool, true, false}

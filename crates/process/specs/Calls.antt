@@ -31,7 +31,8 @@ unfoldable pub knowsItself : Translation → Process → Bool
 knowsItself by p =
     isMapped (by .back User (p .namespace) (p .users .effective)) && isMapped (by .back Group (p .namespace) (p .groups .effective))
 
--- the namespace that process p makes, where own is the namespace that p is in: the setgroups setting is copied, both maps are unwritten
+-- the namespace that process p makes, where own is the namespace that p is in: the setgroups setting is copied, both
+-- maps are unwritten
 unfoldable pub below : Process → Namespace → Namespace
 below p own = record {
   live = true;

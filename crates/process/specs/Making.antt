@@ -1,5 +1,5 @@
--- What clone and unshare have in common, as the code answers it. NOT to be believed: that it is `makesNamespace` of specs/Calls.antt is proved.
--- Assumes nothing.
+-- What clone and unshare have in common, as the code answers it. NOT to be believed: that it is `makesNamespace` of
+-- specs/Calls.antt is proved. Assumes nothing.
 use Prim.Native.Nat.{ℕ, _<_}
 use mathlib.Core.Path.{_≡_}
 use Rattle.tables.specs.Tables.{State, maxLevel, processAt, namespaceAt}

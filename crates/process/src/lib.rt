@@ -31,12 +31,13 @@ use tables::namespaces::namespace_put;
 use tables::processes::process_at;
 use tables::processes::process_put;
 
-// A copy of the caller, but for its number. Answers the child's number. Refuses: 3 no caller, 11 the process table is full.
+// A copy of the caller, but for its number. Answers the child's number. Refuses: 3 no caller, 11 the process table is
+// full.
 // Ruled out, for instance: the caller's number as the answer; a copy stored over the caller.
 pub fn fork(t: &mut Tables, caller: u64) -> Answer
     ensures { λ r. ⌜ Promise r (now (t .entry)) (now (t .exit)) (forkOf (tablesOf (now (t .entry))) caller) ⌝ }
 {
-    // The caller must exist, else 3.
+    // First always: the caller must exist, else 3.
     let Found::At(place) = find_caller(t, caller) else {
         return Answer::Refused(Errno::ESRCH);
     };
@@ -127,7 +128,7 @@ fn find_maker(t: &Tables, caller: u64) -> Making
     ensures told { λ r. ⌜ Makes (byLiftedMaps (tablesOf (now (t .entry)))) (tablesOf (now (t .entry))) caller r ⌝ }
     ensures known { λ r. ⌜ Known (tablesOf (now (t .entry))) r ⌝ }
 {
-    // The caller must exist, else 3.
+    // First always: the caller must exist, else 3.
     let Found::At(place) = find_caller(t, caller) else {
         return Making::Refuses(Errno::ESRCH);
     };
@@ -148,8 +149,8 @@ fn find_maker(t: &Tables, caller: u64) -> Making
     Making::By(place, free, number)
 }
 
-// A child in a new namespace. Answers the child's number and the namespace's. Refuses: 3 no caller, 87 the caller's level is 32, 1 its
-// effective IDs are not mapped in its own namespace, 28 no namespace is free, 11 no process is free.
+// A child in a new namespace. Answers the child's number and the namespace's. Refuses: 3 no caller, 87 the caller's
+// level is 32, 1 its effective IDs are not mapped in its own namespace, 28 no namespace is free, 11 no process is free.
 // Ruled out, for instance: the two numbers in the other order; a new namespace on the caller's own level.
 pub fn clone(t: &mut Tables, caller: u64) -> Answer
     ensures { λ r. ⌜ Promise r (now (t .entry)) (now (t .exit)) (quick cloneOf (tablesOf (now (t .entry))) caller) ⌝ }
@@ -189,15 +190,17 @@ pub fn unshare(t: &mut Tables, caller: u64) -> Answer
     }
 }
 
-// The caller joins a namespace. Refuses: 3 no caller or no such namespace, 22 already a member, 1 without SYS_ADMIN in it.
+// The caller joins a namespace. Refuses: 3 no caller or no such namespace, 22 already a member, 1 without SYS_ADMIN in
+// it.
 // Ruled out, for instance: SYS_ADMIN asked in the caller's own namespace; done with the caller left where it was.
 pub fn setns(t: &mut Tables, caller: u64, name: u64) -> Answer
     ensures { λ r. ⌜ Promise r (now (t .entry)) (now (t .exit)) (setnsOf (tablesOf (now (t .entry))) caller name) ⌝ }
 {
-    // The caller must exist, then the namespace named, else 3.
+    // First always: the caller must exist, else 3.
     let Found::At(place) = find_caller(t, caller) else {
         return Answer::Refused(Errno::ESRCH);
     };
+    // Then the namespace named, else 3.
     let Found::At(target) = named_namespace(t, place, name) else {
         return Answer::Refused(Errno::ESRCH);
     };

@@ -1,5 +1,5 @@
--- The records of the tables, and the rows of words that hold them. Nothing here is to be believed but that the layout loses nothing:
--- a record's words are read as the record (proofs/Records.antt). Assumes nothing.
+-- The records of the tables, and the rows of words that hold them. Nothing here is to be believed but that the layout
+-- loses nothing: a record's words are read as the record (proofs/Records.antt). Assumes nothing.
 use Prim.Native.Nat.{ℕ, _+_, _*_, _%_, _^_}
 use mathlib.Core.List.{List, [], _∷_}
 use mathlib.Core.Bool.{Bool, true, false, cond}
@@ -39,8 +39,8 @@ idsWords i = i .real ∷ i .effective ∷ i .saved ∷ []
 abbrev pub maxGroups : ℕ
 maxGroups = 16
 
--- a process's row: whether it is live, its namespace, three user IDs, three group IDs, the number of its groups, as many places as there may be groups, and
--- two sets
+-- a process's row: whether it is live, its namespace, three user IDs, three group IDs, the number of its groups, as
+-- many places as there may be groups, and two sets
 abbrev pub permittedAt : ℕ
 permittedAt = 9 + maxGroups
 
@@ -84,7 +84,8 @@ mapOf ws = record { state = stateOf (getD ws 0 0) (getD ws 1 0); lines = tab (λ
 abbrev pub freeMap : IdMap
 freeMap = record { state = Unwritten; lines = replicate maxLines noLine }
 
--- a namespace's row: whether it is live, its parent, its level, its owner, the words of its user map, those of its group map, and whether setgroups is denied
+-- a namespace's row: whether it is live, its parent, its level, its owner, the words of its user map, those of its
+-- group map, and whether setgroups is denied
 abbrev pub mapAt : Kind → ℕ
 mapAt User = 4
 mapAt Group = 4 + mapWidth

@@ -1,5 +1,5 @@
-// The records of the tables, processes and namespaces, and the rows of words that hold them: a row is read into a record, and a record is
-// laid out as words that are read as it.
+// The records of the tables, processes and namespaces, and the rows of words that hold them: a row is read into a
+// record, and a record is laid out as words that are read as it.
 pub mod kinds;
 pub mod namespaces;
 pub mod processes;

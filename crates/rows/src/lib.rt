@@ -1,4 +1,5 @@
-// Rows of a lent array of words: the one store of a row, for every table, and the part of the array that a row is read from.
+// Rows of a lent array of words: the one store of a row, for every table, and the part of the array that a row is read
+// from.
 ghost use mathlib.Core.Path.{_≡_};
 ghost use Prim.Native.Nat.{_+_, _≤_};
 ghost use lib.ListN.{length};

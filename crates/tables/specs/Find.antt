@@ -22,8 +22,8 @@ namespaceNumber i = i
 unfoldable pub callerNamed : State → ℕ → Found
 callerNamed s c = cond (eqb c 0) Nothing (cond (processAt s (c - 1) .live) (At (c - 1)) Nothing)
 
--- document 01: then the process or namespace named, if there is one, by its place. p is the place of the caller that names it: every caller may name
--- every process and every namespace
+-- document 01: then the process or namespace named, if there is one, by its place. p is the place of the caller that
+-- names it: every caller may name every process and every namespace
 unfoldable pub processNamed : State → ℕ → ℕ → Found
 processNamed s p name = callerNamed s name
 

@@ -69,7 +69,8 @@ isRefused (id x) = false
 isRefused unmapped = false
 isRefused (ids l) = false
 
--- what a call that may store promises: its answer and the tables are the outcome's, and a refusal leaves every word of the lent array as it was
+-- what a call that may store promises: its answer and the tables are the outcome's, and a refusal leaves every word of
+-- the lent array as it was
 pub record Promise (r : Answer) (entry exit : List ℕ) (o : Outcome) : Type 0 where
   pub outcome : _≡_ {A = Outcome} (record { reply = replyOf r; tables = tablesOf exit }) o
   pub kept : isRefused (replyOf r) ≡ true → exit ≡ entry

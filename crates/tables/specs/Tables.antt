@@ -21,8 +21,9 @@ use Rattle.records.specs.Records.{maxGroups, processWidth, processOf, freeProce
 pub record State : Type 0 where
   pub processes : List Process
   pub namespaces : List Namespace
-  -- what the code keeps beside the maps: each once more, lifted over those above as far as its lines are not too many. Document 01 has no such thing, and
-  -- no definition reads it but those of hierarchy/specs/Lifted.antt, which are not to be believed
+  -- what the code keeps beside the maps: each once more, lifted over those above as far as its lines are not too many.
+  -- Document 01 has no such thing, and no definition reads it but those of hierarchy/specs/Lifted.antt, which are not
+  -- to be believed
   pub liftedUsers : List Lifted
   pub liftedGroups : List Lifted
 

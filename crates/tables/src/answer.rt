@@ -1,5 +1,5 @@
-// What a call answers: document 01's answers but a process's own IDs, which have a type of their own, and its refusals under
-// Linux' names.
+// What a call answers: document 01's answers but a process's own IDs, which have a type of their own, and its refusals
+// under Linux' names.
 pub enum Errno {
     EPERM,
     ESRCH,

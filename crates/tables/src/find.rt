@@ -1,5 +1,5 @@
-// Who is where: callers, the processes and namespaces that they name, the lowest places that are unused, and the numbers that
-// places stand for.
+// Who is where: callers, the processes and namespaces that they name, the lowest places that are unused, and the
+// numbers that places stand for.
 ghost use mathlib.Core.Path.{_≡_};
 ghost use Prim.Native.Nat.{_<_};
 ghost use Rattle.tables.specs.Tables.{processPlaces, tablesOf};

@@ -61,8 +61,8 @@ pub fn lifted_map_put(t: &mut Tables, kind: Kind, place: usize, map: &LiftedMap)
     }
 }
 
-// Leaves a namespace without a lifted map of either kind: no lines, and base 0. What stands past these two words is then not read. A place
-// past the end has none.
+// Leaves a namespace without a lifted map of either kind: no lines, and base 0. What stands past these two words is
+// then not read. A place past the end has none.
 pub fn lifted_maps_clear(t: &mut Tables, place: usize)
     ensures { λ r. ⌜ tablesOf (now (t .exit)) ≡ clearLiftedMaps (tablesOf (now (t .entry))) place ⌝ }
 {

@@ -1,4 +1,5 @@
--- `hierarchy::capable::capable` meets its contract. A turn keeps the answer of the walk from where it stands. Assumes nothing.
+-- `hierarchy::capable::capable` meets its contract. A turn keeps the answer of the walk from where it stands. Assumes
+-- nothing.
 use mathlib.Core.Path.{_≡_}
 use Rattle.tables.specs.Tables.{tablesOf}
 use Rattle.hierarchy.specs.Walks.{holdsIn}

@@ -1,4 +1,5 @@
--- The cycle of calls {`hierarchy::translate::down`} meets its contract. The measure is the number of steps left. Assumes nothing.
+-- The cycle of calls {`hierarchy::translate::down`} meets its contract. The measure is the number of steps left.
+-- Assumes nothing.
 use Prim.Native.Nat.{ℕ, _<_}
 use borrow.Fn.Kinds.{In}
 use borrow.Fn.PlainCycle.{Measures, is, falls, and}

@@ -1,4 +1,5 @@
--- `hierarchy::translate::up` meets its contract. A turn keeps what the rest of the way out makes of the ID. Assumes nothing.
+-- `hierarchy::translate::up` meets its contract. A turn keeps what the rest of the way out makes of the ID. Assumes
+-- nothing.
 use mathlib.Core.Path.{_≡_}
 use Rattle.tables.specs.Tables.{tablesOf}
 use Rattle.hierarchy.specs.Lifted.{stepsAbove, outIn}

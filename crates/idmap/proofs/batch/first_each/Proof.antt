@@ -1,4 +1,5 @@
--- `idmap::batch::first_each` meets its contract. The invariant: what is found is what the lines from line `i` on make of the IDs. Assumes nothing.
+-- `idmap::batch::first_each` meets its contract. The invariant: what is found is what the lines from line `i` on make
+-- of the IDs. Assumes nothing.
 use mathlib.Core.Path.{_≡_}
 use Prim.Native.Nat.{_*_, _≤_}
 use lib.ListN.{length}

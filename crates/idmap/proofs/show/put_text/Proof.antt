@@ -1,4 +1,5 @@
--- `idmap::show::put_text` meets its contract: the code's two tests are the one test whether the text fits. Assumes nothing.
+-- `idmap::show::put_text` meets its contract: the code's two tests are the one test whether the text fits. Assumes
+-- nothing.
 use Rattle.prelude.proofs.Parts.{parts}
 use Rattle.idmap.proofs.show.put_text.Statement.{statement}
 use Rattle.idmap.proofs.show.put_text.Tie as tie

@@ -1,5 +1,6 @@
--- `idmap::text::parse_map` meets its contract. The invariant: the lines so far, with those of the text from `at` on, are the text's lines.
--- At `add-at` and `loop-again` the law is applied by hand: `search` breaks off there. Assumes nothing.
+-- `idmap::text::parse_map` meets its contract. The invariant: the lines so far, with those of the text from `at` on,
+-- are the text's lines. At `add-at` and `loop-again` the law is applied by hand: `search` breaks off there. Assumes
+-- nothing.
 use mathlib.Core.Path.{_≡_}
 use Prim.Native.Nat.{_≤_, _-_}
 use borrow.Author.Needs.{needs}
