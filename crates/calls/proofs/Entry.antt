@@ -71,10 +71,7 @@ own-whole by s c =
       supplementary = groups-whole (map (seen by Group (processAt s i .namespace)) (take (processAt s i .supplementary .count) (processAt s i .supplementary .ids))) j;
     })
 
--- ---- plain and own
-pub plain-is : (a : Answer) (o : OwnIds) → o ≡ noOwnIds → _≡_ {A = Response} (record { answer = Plain a; ids = o }) (plainOf a)
-plain-is a o e = rw e
-
+-- ---- own
 module _ (o : OwnResult) where
   pub own-told : o .answer ≡ Told → _≡_ {A = Response} (record { answer = Own; ids = o .ids }) (ownOf o)
   own-told e = rw e
@@ -174,7 +171,7 @@ module _ (by : Translation) (c : Call) (l text list b : List ℕ) (r : Response)
       let reply = ap callReply x ∙ own-reply (ownIdsOf by (tablesOf l) p .answer) (ownIdsOf by (tablesOf l) p .ids) in
       promises r l l b (answerBy by (tablesOf l) c text list b) ((λ i. record { reply = reply i; tables = tablesOf l; buffer = b }) ∙ rw e) (subst Whole (sym x) (own-whole by (tablesOf l) p)) (λ t. refl)
 
-pub ruleset answers = (plain-is, own-told, own-not-told, needs)
+pub ruleset answers = (own-told, own-not-told, needs)
 
 pub ruleset entry = (
   fork-step,

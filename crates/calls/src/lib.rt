@@ -3,10 +3,10 @@ ghost use Rattle.tables.specs.Tables.{tablesOf};
 ghost use mathlib.Core.Path.{_≡_};
 ghost use Rattle.hierarchy.specs.Lifted.{quick};
 ghost use Rattle.calls.specs.Calls.{plainOf, ownOf, answerBy, CallPromise};
+use credentials::own::NO_OWN_IDS;
 use credentials::own::OwnAnswer;
 use credentials::own::OwnIds;
 use credentials::own::OwnResult;
-use credentials::own::no_own_ids;
 use credentials::translate::Way;
 use records::Ids;
 use records::Kind;
@@ -47,7 +47,7 @@ pub struct Response {
 fn plain(answer: Answer) -> Response
     ensures { λ r. ⌜ r ≡ plainOf answer ⌝ }
 {
-    let none = no_own_ids();
+    let none = NO_OWN_IDS;
     Response {
         answer: CallAnswer::Plain(answer),
         ids: none,

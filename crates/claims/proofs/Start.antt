@@ -12,8 +12,8 @@ use Rattle.records.specs.declared.Kind.the-variants.{User, Group}
 use Rattle.records.specs.declared.Process.{Process}
 use Rattle.records.specs.declared.MapState.the-variants.{Unwritten}
 use Rattle.records.specs.declared.Namespace.{Namespace}
-use Rattle.records.specs.Records.{freeProcess, freeNamespace, mapIn}
-use Rattle.tables.specs.Tables.{State, processAt, namespaceAt, liftedMaps, noLift, fixedLift, liftedAt, putProcess, firstProcess, rootNamespace, firstLiftedMaps, initialTables, allZero, processPlaces, namespacePlaces}
+use Rattle.records.specs.Records.{freeProcess, freeNamespace, mapIn, zeroIds}
+use Rattle.tables.specs.Tables.{State, processAt, namespaceAt, liftedMaps, noLift, fixedLift, liftedAt, putProcess, firstProcess, rootNamespace, firstLiftedMaps, initialTables, processPlaces, namespacePlaces}
 use Rattle.prelude.proofs.Tests.{by-test}
 use Rattle.claims.specs.Words.{isProcess, isNamespace, placeOf, parentOf, levelOf, writtenOf, heldOf}
 use Rattle.claims.specs.Agreement.{heldIn, writtenIn, stateFor, Agrees, Agreed}
@@ -30,7 +30,7 @@ all-same x (suc n) (suc i) = all-same x n i
 abbrev empty : State
 empty = record { processes = replicate processPlaces freeProcess; namespaces = replicate namespacePlaces freeNamespace; liftedUsers = firstLiftedMaps; liftedGroups = firstLiftedMaps }
 
-free-ids : (k : Kind) → heldIn k freeProcess ≡ record { three = allZero; supplementary = [] }
+free-ids : (k : Kind) → heldIn k freeProcess ≡ record { three = zeroIds; supplementary = [] }
 free-ids User = refl
 free-ids Group = refl
 
@@ -43,7 +43,7 @@ free-state User = refl
 free-state Group = refl
 
 -- tables with no process and no namespace
-empty-agrees : Agrees empty (λ (i : ℕ). false) (λ (i : ℕ). false) (λ (i : ℕ). 0) (λ (i : ℕ). 0) (λ (i : ℕ). 0) (λ (k : Kind) (i : ℕ). none) (λ (k : Kind) (i : ℕ). record { three = allZero; supplementary = [] })
+empty-agrees : Agrees empty (λ (i : ℕ). false) (λ (i : ℕ). false) (λ (i : ℕ). 0) (λ (i : ℕ). 0) (λ (i : ℕ). 0) (λ (k : Kind) (i : ℕ). none) (λ (k : Kind) (i : ℕ). record { three = zeroIds; supplementary = [] })
 unfolding processAt namespaceAt
 empty-agrees = record {
   process-places = length-replicate processPlaces freeProcess;
@@ -59,7 +59,7 @@ empty-agrees = record {
   namespace-state = λ k i. ap (λ (n : Namespace). mapIn k n .state) (all-same freeNamespace namespacePlaces i) ∙ free-state k;
 }
 
-first-ids : (k : Kind) → heldIn k firstProcess ≡ record { three = allZero; supplementary = [] }
+first-ids : (k : Kind) → heldIn k firstProcess ≡ record { three = zeroIds; supplementary = [] }
 first-ids User = refl
 first-ids Group = refl
 

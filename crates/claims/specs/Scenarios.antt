@@ -17,7 +17,7 @@ use Rattle.records.specs.declared.Process.{Process}
 use Rattle.records.specs.declared.MapState.the-variants.{Unwritten, Written}
 use Rattle.records.specs.declared.IdMap.{IdMap}
 use Rattle.records.specs.declared.Namespace.{Namespace}
-use Rattle.records.specs.Records.{freeNamespace, freeProcess, maxGroups}
+use Rattle.records.specs.Records.{freeNamespace, freeProcess, noGroups}
 use Rattle.tables.specs.Tables.{State, firstProcess, rootNamespace, processPlaces, namespacePlaces}
 use Rattle.tables.specs.Reply.{Reply, refused, done, child, newNamespace, yes′, no′, bytes, id, unmapped}
 use Rattle.credentials.specs.declared.translate.Way.the-variants.{Out}
@@ -96,7 +96,7 @@ process n u g set = record {
   namespace = n;
   users = record { real = u; effective = u; saved = u };
   groups = record { real = g; effective = g; saved = g };
-  supplementary = record { count = 0; ids = replicate maxGroups 0 };
+  supplementary = noGroups;
   permitted = record { bits = set };
   effective = record { bits = set };
 }

@@ -15,7 +15,8 @@ use Rattle.idmap.specs.Text.{mapLines}
 use Rattle.records.specs.declared.Kind.{Kind}
 use Rattle.records.specs.declared.Kind.the-variants.{User, Group}
 use Rattle.records.specs.declared.Ids.{Ids}
-use Rattle.tables.specs.Tables.{allZero, fixedLine}
+use Rattle.records.specs.Records.{zeroIds}
+use Rattle.tables.specs.Tables.{fixedLine}
 use Rattle.claims.specs.Translation.{outBy}
 use Rattle.claims.specs.Events.{Event, other, forked, cloned, unshared, joined, mapped, changed, grouped}
 
@@ -135,7 +136,7 @@ changedIds k h n new old = record {
 -- a process carries the IDs that its start and its own calls not refused left it: process 1 starts with 0, 0, 0 and no
 -- groups; a fork or a clone gives the child the caller's
 unfoldable pub heldOf : Kind → List Event → ℕ → Held
-heldOf k [] p = record { three = allZero; supplementary = [] }
+heldOf k [] p = record { three = zeroIds; supplementary = [] }
 heldOf k (other ∷ h) p = heldOf k h p
 heldOf k (forked c q ∷ h) p = cond (eqb p q) (heldOf k h c) (heldOf k h p)
 heldOf k (cloned c q n ∷ h) p = cond (eqb p q) (heldOf k h c) (heldOf k h p)

@@ -20,7 +20,7 @@ use Rattle.records.specs.declared.Kind.the-variants.{Group}
 use Rattle.records.specs.declared.GroupList.{GroupList}
 use Rattle.records.specs.declared.Process.{Process}
 use Rattle.records.specs.declared.Namespace.{Namespace}
-use Rattle.records.specs.Records.{maxGroups, isWritten}
+use Rattle.records.specs.Records.{maxGroups, noGroups, isWritten}
 use Rattle.tables.specs.Tables.{State, tablesOf, processAt, namespaceAt, putProcess}
 use Rattle.tables.specs.Find.{callerNamed}
 use Rattle.tables.specs.Reply.{Outcome, done, refuse, Promise}
@@ -90,14 +90,11 @@ module _ (s : State) (n : ℕ) where
     pub kernel-listed : t ≡ true → _≡_ {A = Listed} (record { mapped = true; groups = groups }) (listedOf (kernelGroups (byLiftedMaps s) n list))
     kernel-listed e = rw (every-group (maxGroups - length (map kernelOr list)) list (ids-are ∙ e), groups-are)
 
-    pub kernel-unlisted : (a : Listed) → t ≡ false → a ≡ listedOf none → a ≡ listedOf (kernelGroups (byLiftedMaps s) n list)
-    kernel-unlisted a e q = q ∙ sym (ap listedOf (some-group (maxGroups - length (map kernelOr list)) list (ids-are ∙ e)))
+    pub kernel-unlisted : t ≡ false → _≡_ {A = Listed} (record { mapped = false; groups = noGroups }) (listedOf (kernelGroups (byLiftedMaps s) n list))
+    unfolding groupList
+    kernel-unlisted e = sym (ap listedOf (some-group (maxGroups - length (map kernelOr list)) list (ids-are ∙ e)))
 
--- ---- none_listed, with_list
-pub listed-none : _≡_ {A = Listed} (record { mapped = false; groups = record { count = 0; ids = replicate maxGroups 0 } }) (listedOf none)
-unfolding groupList
-listed-none = refl
-
+-- ---- with_list
 pub list-made : (p : Process) (new : GroupList)
     → record { live = p .live; namespace = p .namespace; users = p .users; groups = p .groups; supplementary = new; permitted = p .permitted; effective = p .effective } ≡ withList p new
 unfolding withList
@@ -168,7 +165,6 @@ module _ (by : Translation) (l : List ℕ) (c : ℕ) (list : List ℕ) (r : Foun
 pub ruleset grouping = (
   kernel-listed,
   kernel-unlisted,
-  listed-none,
   list-made,
   groups-nobody,
   groups-incapable,

@@ -97,9 +97,9 @@ module _ (s : State) (n : ℕ) (three : Ids) (g : GroupList) (given found : List
 
 -- ---- the call
 module _ (by : Translation) (s : State) (c : ℕ) (r : Found) (named : r ≡ callerNamed s c) where
-  pub own-nobody : (o : OwnIds) → o ≡ noOwnIds → r ≡ Nothing → _≡_ {A = OwnResult} (record { answer = NotTold ESRCH; ids = o }) (ownIdsOf by s c)
+  pub own-nobody : r ≡ Nothing → _≡_ {A = OwnResult} (record { answer = NotTold ESRCH; ids = noOwnIds }) (ownIdsOf by s c)
   unfolding ownIdsOf
-  own-nobody o q e = rw (← named, e, q)
+  own-nobody e = rw (← named, e)
 
   pub own-found : (i : ℕ) (p : Process) (a : Ids) (g : Groups) → r ≡ At i → p ≡ processAt s i → a ≡ seenIds by User (p .namespace) (p .users)
       → g ≡ record { three = seenIds by Group (p .namespace) (p .groups); list = seenGroups by (p .namespace) (p .supplementary) }

@@ -17,7 +17,7 @@ use Rattle.records.specs.declared.Kind.the-variants.{User, Group}
 use Rattle.records.specs.declared.Ids.{Ids}
 use Rattle.records.specs.declared.GroupList.{GroupList}
 use Rattle.records.specs.declared.Process.{Process}
-use Rattle.records.specs.Records.{maxGroups, idsIn, setIdOf, isWritten}
+use Rattle.records.specs.Records.{maxGroups, zeroIds, noGroups, idsIn, setIdOf, isWritten}
 use Rattle.tables.specs.Tables.{State, processAt, namespaceAt, putProcess}
 use Rattle.tables.specs.Find.{callerNamed, namespaceNamed}
 use Rattle.tables.specs.Reply.{Reply, refused, done, yes′, no′, id, unmapped, Outcome, refuse, onFound, when, unless}
@@ -181,15 +181,12 @@ seen by kind n x = shownAs (by .back kind n x)
 abbrev pub seenIds : Translation → Kind → ℕ → Ids → Ids
 seenIds by kind n i = record { real = seen by kind n (i .real); effective = seen by kind n (i .effective); saved = seen by kind n (i .saved) }
 
-abbrev pub noIds : Ids
-noIds = record { real = 0; effective = 0; saved = 0 }
-
 -- the groups in order: the first of the list, as many as it has
 unfoldable pub seenGroups : Translation → ℕ → GroupList → GroupList
 seenGroups by n g = groupList (map (seen by Group n) (take (g .count) (g .ids)))
 
 abbrev pub noOwnIds : OwnIds
-noOwnIds = record { users = noIds; groups = noIds; supplementary = record { count = 0; ids = replicate maxGroups 0 } }
+noOwnIds = record { users = zeroIds; groups = zeroIds; supplementary = noGroups }
 
 unfoldable pub ownIdsOf : Translation → State → ℕ → OwnResult
 ownIdsOf by s c =

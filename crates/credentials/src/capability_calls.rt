@@ -45,7 +45,7 @@ pub fn ask(t: &Tables, caller: u64, name: u64, number: u32) -> Answer
 }
 
 // The process with lowered sets.
-fn lowered(p: Process, permitted: u64, effective: u64) -> Process
+fn with_sets(p: Process, permitted: u64, effective: u64) -> Process
     requires { ⌜ (isWithin permitted (p .permitted .bits) ≡ true) × (isWithin effective permitted ≡ true) ⌝ }
     ensures { λ r. ⌜ r ≡ withSets p permitted effective ⌝ }
 {
@@ -87,6 +87,6 @@ pub fn drop(t: &mut Tables, caller: u64, permitted: u64, effective: u64) -> Answ
     if !CapabilitySet::new(effective).within(new) {
         return Answer::Refused(Errno::EPERM);
     }
-    process_put(t, place, lowered(p, permitted, effective));
+    process_put(t, place, with_sets(p, permitted, effective));
     Answer::Done
 }

@@ -1,6 +1,5 @@
 // Setgroups.
 ghost use mathlib.Core.Path.{_≡_};
-ghost use mathlib.Core.Option.{none};
 ghost use Prim.Native.Nat.{_≤_};
 ghost use lib.ListN.{length};
 ghost use Rattle.records.specs.Records.{maxGroups};
@@ -17,6 +16,7 @@ use hierarchy::capable::capable;
 use records::GroupList;
 use records::Kind;
 use records::MAX_GROUPS;
+use records::NO_GROUPS;
 use records::Process;
 use records::kinds::is_written;
 use tables::Tables;
@@ -34,18 +34,6 @@ struct Listed {
     groups: GroupList,
 }
 
-fn none_listed() -> Listed
-    ensures { λ r. ⌜ r ≡ listedOf none ⌝ }
-{
-    Listed {
-        mapped: false,
-        groups: GroupList {
-            count: 0,
-            ids: [0; MAX_GROUPS],
-        },
-    }
-}
-
 // The kernel IDs of groups, in order, where a list has room for them.
 fn kernel_groups(t: &Tables, namespace: u64, list: &[u32]) -> Listed
     requires { ⌜ length (now list) ≤ maxGroups ⌝ }
@@ -60,7 +48,10 @@ fn kernel_groups(t: &Tables, namespace: u64, list: &[u32]) -> Listed
             groups: groups,
         }
     } else {
-        none_listed()
+        Listed {
+            mapped: false,
+            groups: NO_GROUPS,
+        }
     }
 }
 

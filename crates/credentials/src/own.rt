@@ -2,7 +2,7 @@
 ghost use mathlib.Core.Path.{_≡_};
 ghost use Rattle.tables.specs.Tables.{tablesOf};
 ghost use Rattle.hierarchy.specs.Lifted.{byLiftedMaps, quick};
-ghost use Rattle.credentials.specs.Calls.{seenIds, seenGroups, noOwnIds, ownIdsOf};
+ghost use Rattle.credentials.specs.Calls.{seenIds, seenGroups, ownIdsOf};
 use crate::batching::group_list;
 use crate::batching::own_batch;
 use hierarchy::batch::Known;
@@ -15,6 +15,8 @@ use records::GroupList;
 use records::Ids;
 use records::Kind;
 use records::MAX_GROUPS;
+use records::NO_GROUPS;
+use records::ZERO_IDS;
 use tables::Tables;
 use tables::answer::Errno;
 use tables::find::Found;
@@ -42,24 +44,12 @@ pub struct OwnResult {
     pub ids: OwnIds,
 }
 
-// No IDs.
-pub fn no_own_ids() -> OwnIds
-    ensures { λ r. ⌜ r ≡ noOwnIds ⌝ }
-{
-    let none = Ids {
-        real: 0,
-        effective: 0,
-        saved: 0,
-    };
-    OwnIds {
-        users: none,
-        groups: none,
-        supplementary: GroupList {
-            count: 0,
-            ids: [0; MAX_GROUPS],
-        },
-    }
-}
+// None that are told.
+pub const NO_OWN_IDS: OwnIds = OwnIds {
+    users: ZERO_IDS,
+    groups: ZERO_IDS,
+    supplementary: NO_GROUPS,
+};
 
 // The three user IDs. One that is the same as the one before it is not looked up again.
 fn seen_users(t: &Tables, namespace: u64, users: Ids) -> Ids
@@ -128,7 +118,7 @@ pub fn own_ids(t: &Tables, caller: u64) -> OwnResult
     let Found::At(place) = find_caller(t, caller) else {
         return OwnResult {
             answer: OwnAnswer::NotTold(Errno::ESRCH),
-            ids: no_own_ids(),
+            ids: NO_OWN_IDS,
         };
     };
     let p = process_at(t, place);

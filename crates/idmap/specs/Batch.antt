@@ -1,4 +1,5 @@
--- Lookups of several IDs at once. Assumes nothing.
+-- Lookups of several IDs at once: what the code does. NOT to be believed: each is `out` or `back` of specs/Lookup.antt.
+-- Assumes nothing.
 use Prim.Native.Nat.{ℕ}
 use mathlib.Core.Bool.{cond}
 use mathlib.Core.List.{List, map}

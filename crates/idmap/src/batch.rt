@@ -42,7 +42,7 @@ fn through(l: Line, ids: Batch, found: Batch) -> Batch
 }
 
 // What the first line that holds it makes of each ID, read out of the namespace or back into it; `other` where no line
-// does. It goes from the last line to the first, so that the first has the last word.
+// does. It goes from the last line to the first, so that the first one that holds an ID decides.
 fn first_each(words: &[u64], ids: Batch, backward: bool, other: u32) -> Batch
     ensures { λ r. ⌜ r ≡ outEach other (map (facingOf backward) (linesIn (now (words .entry)))) ids ⌝ }
 {

@@ -32,6 +32,13 @@ pub struct Line {
     pub count: u32,
 }
 
+// A line of no IDs.
+pub const NO_LINE: Line = Line {
+    inside: 0,
+    parent: 0,
+    count: 0,
+};
+
 // What a lookup finds.
 pub enum Translated {
     Id(u32),

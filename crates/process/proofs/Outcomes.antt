@@ -23,7 +23,7 @@ use Rattle.tables.specs.declared.find.Found.the-variants.{At, Nothing}
 use Rattle.tables.specs.declared.find.Free.{Free}
 use Rattle.tables.specs.declared.find.Free.the-variants.{Place, Full}
 use Rattle.tables.specs.Tables.{State, maxLevel, tablesOf, processAt, namespaceAt, putProcess, putNamespace, clearLiftedMaps}
-use Rattle.tables.specs.Find.{processNumber, namespaceNumber, callerNamed, namespaceNamed, freeProcessPlace, freeNamespacePlace, numbered}
+use Rattle.tables.specs.Find.{processNumber, namespaceNumber, callerNamed, namespaceNamed, freeProcessPlace, freeNamespacePlace, freeAs}
 use Rattle.tables.specs.Reply.{Promise}
 use Rattle.tables.proofs.Promises.{refuses, answers, none-free, free-at}
 use Rattle.hierarchy.specs.Walks.{Translation, capableIn}
@@ -61,7 +61,7 @@ module _ (l : List ℕ) (c : ℕ) (r : Found) (f : r ≡ callerNamed (tablesOf l
   unfolding forkOf
   fork-no-caller n = refuses ESRCH l (forkOf (tablesOf l) c) (sym (rw (sym f ∙ n)))
 
-  module _ (i : ℕ) (v : r ≡ At i) (q : Free) (g : q ≡ numbered processNumber (freeProcessPlace (tablesOf l))) where
+  module _ (i : ℕ) (v : r ≡ At i) (q : Free) (g : q ≡ freeAs processNumber (freeProcessPlace (tablesOf l))) where
     pub fork-full : q ≡ Full → Promise (Refused EAGAIN) l l (forkOf (tablesOf l) c)
     unfolding forkOf
     fork-full n = refuses EAGAIN l (forkOf (tablesOf l) c) (sym (rw (sym f ∙ v, none-free processNumber (freeProcessPlace (tablesOf l)) (sym n ∙ g))))
@@ -85,7 +85,7 @@ module _ (by : Translation) (s : State) (c : ℕ) (r : Found) (f : r ≡ callerN
       pub maker-unmapped : k ≡ false → Makes by s c (Refuses EPERM)
       maker-unmapped t = λ next. rw (sym f ∙ v, ← e, ← o, lt-leb maxLevel (own .level) h, ← m, t)
 
-      module _ (t : k ≡ true) (a : Free) (b : a ≡ numbered namespaceNumber (freeNamespacePlace s)) where
+      module _ (t : k ≡ true) (a : Free) (b : a ≡ freeAs namespaceNumber (freeNamespacePlace s)) where
         pub maker-no-space : a ≡ Full → Makes by s c (Refuses ENOSPC)
         maker-no-space z = λ next. rw (sym f ∙ v, ← e, ← o, lt-leb maxLevel (own .level) h, ← m, t, none-free namespaceNumber (freeNamespacePlace s) (sym z ∙ b))
 
@@ -108,7 +108,7 @@ module _ (by : Translation) (l : List ℕ) (c : ℕ) (r : Making) (f : Makes by 
   unshare-refused e q = refuses e l (unshareOf by (tablesOf l) c) (sym (f _ ∙ rw q))
 
   module _ (i n d : ℕ) (v : r ≡ By i n d) where
-    pub clone-no-place : (q : Free) → q ≡ numbered processNumber (freeProcessPlace (tablesOf l)) → q ≡ Full → Promise (Refused EAGAIN) l l (cloneOf by (tablesOf l) c)
+    pub clone-no-place : (q : Free) → q ≡ freeAs processNumber (freeProcessPlace (tablesOf l)) → q ≡ Full → Promise (Refused EAGAIN) l l (cloneOf by (tablesOf l) c)
     unfolding cloneOf
     clone-no-place q g z = refuses EAGAIN l (cloneOf by (tablesOf l) c) (sym (f _ ∙ rw (v, none-free processNumber (freeProcessPlace (tablesOf l)) (sym z ∙ g))))
 
@@ -117,7 +117,7 @@ module _ (by : Translation) (l : List ℕ) (c : ℕ) (r : Making) (f : Makes by 
       level-below = rw (o, e) ((rw v at m) .0)
 
       module _ (l₁ : List ℕ) (y : tablesOf l₁ ≡ withNamespace (tablesOf l) n p own) (in′ : Process) (z : in′ ≡ entered p n) (l₂ : List ℕ) where
-        pub clone-done : (q : Free) (j x : ℕ) → q ≡ numbered processNumber (freeProcessPlace (tablesOf l)) → q ≡ Place j x → tablesOf l₂ ≡ putProcess (tablesOf l₁) j in′ → Promise (ChildIn x d) l l₂ (cloneOf by (tablesOf l) c)
+        pub clone-done : (q : Free) (j x : ℕ) → q ≡ freeAs processNumber (freeProcessPlace (tablesOf l)) → q ≡ Place j x → tablesOf l₂ ≡ putProcess (tablesOf l₁) j in′ → Promise (ChildIn x d) l l₂ (cloneOf by (tablesOf l) c)
         unfolding cloneOf
         clone-done q j x g u k =
             let free = free-at processNumber (freeProcessPlace (tablesOf l)) j x (sym u ∙ g) in

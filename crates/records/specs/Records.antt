@@ -13,6 +13,7 @@ use Rattle.idmap.specs.Good.{maxLines}
 use Rattle.records.specs.declared.Kind.{Kind}
 use Rattle.records.specs.declared.Kind.the-variants.{User, Group}
 use Rattle.records.specs.declared.Ids.{Ids}
+use Rattle.records.specs.declared.GroupList.{GroupList}
 use Rattle.records.specs.declared.Process.{Process}
 use Rattle.records.specs.declared.MapState.{MapState}
 use Rattle.records.specs.declared.MapState.the-variants.{Unwritten, Written}
@@ -58,14 +59,21 @@ processOf r = record {
   effective = record { bits = getD r (permittedAt + 1) 0 };
 }
 
+-- IDs that are all 0, and no groups
+abbrev pub zeroIds : Ids
+zeroIds = record { real = 0; effective = 0; saved = 0 }
+
+abbrev pub noGroups : GroupList
+noGroups = record { count = 0; ids = replicate maxGroups 0 }
+
 -- document 01: a place of the process table that is free
 abbrev pub freeProcess : Process
 freeProcess = record {
   live = false;
   namespace = 0;
-  users = record { real = 0; effective = 0; saved = 0 };
-  groups = record { real = 0; effective = 0; saved = 0 };
-  supplementary = record { count = 0; ids = replicate maxGroups 0 };
+  users = zeroIds;
+  groups = zeroIds;
+  supplementary = noGroups;
   permitted = record { bits = emptySet };
   effective = record { bits = emptySet };
 }

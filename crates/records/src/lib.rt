@@ -31,6 +31,18 @@ pub struct GroupList {
     pub ids: [u32; MAX_GROUPS],
 }
 
+// IDs that are all 0, and no groups.
+pub const ZERO_IDS: Ids = Ids {
+    real: 0,
+    effective: 0,
+    saved: 0,
+};
+
+pub const NO_GROUPS: GroupList = GroupList {
+    count: 0,
+    ids: [0; MAX_GROUPS],
+};
+
 pub struct Process {
     pub live: bool,
     pub namespace: u64,

@@ -13,6 +13,7 @@ use crate::words::flag_word;
 use idmap::LINE_WORDS;
 use idmap::Line;
 use idmap::MAX_LINES;
+use idmap::NO_LINE;
 use idmap::TWO_TO_32;
 
 // Where the parts of a map stand among its words.
@@ -228,14 +229,9 @@ pub fn namespace_words(n: Namespace) -> [u64; NAMESPACE_WIDTH]
 pub fn free_map() -> IdMap
     ensures { λ r. ⌜ r ≡ freeMap ⌝ }
 {
-    let none = Line {
-        inside: 0,
-        parent: 0,
-        count: 0,
-    };
     IdMap {
         state: MapState::Unwritten,
-        lines: [none; MAX_LINES],
+        lines: [NO_LINE; MAX_LINES],
     }
 }
 

@@ -5,7 +5,9 @@ ghost use Rattle.records.specs.Records.{processWidth, freeProcess, proce
 use crate::GroupList;
 use crate::Ids;
 use crate::MAX_GROUPS;
+use crate::NO_GROUPS;
 use crate::Process;
+use crate::ZERO_IDS;
 use crate::words::flag_word;
 use capability::CapabilitySet;
 use idmap::TWO_TO_32;
@@ -131,20 +133,12 @@ pub fn process_words(p: Process) -> [u64; PROCESS_WIDTH]
 pub fn free_process() -> Process
     ensures { λ r. ⌜ r ≡ freeProcess ⌝ }
 {
-    let none = Ids {
-        real: 0,
-        effective: 0,
-        saved: 0,
-    };
     Process {
         live: false,
         namespace: 0,
-        users: none,
-        groups: none,
-        supplementary: GroupList {
-            count: 0,
-            ids: [0; MAX_GROUPS],
-        },
+        users: ZERO_IDS,
+        groups: ZERO_IDS,
+        supplementary: NO_GROUPS,
         permitted: CapabilitySet::EMPTY,
         effective: CapabilitySet::EMPTY,
     }

@@ -18,7 +18,7 @@ use Rattle.tables.specs.declared.find.Found.the-variants.{At, Nothing}
 use Rattle.tables.specs.declared.find.Free.the-variants.{Place, Full}
 use Rattle.records.specs.Records.{freeProcess, freeNamespace}
 use Rattle.tables.specs.Tables.{State, processPlaces, namespacePlaces, tablesOf, processAt, namespaceAt}
-use Rattle.tables.specs.Find.{processNumber, namespaceNumber, callerNamed, processNamed, namespaceNamed, freeFrom, freeProcessPlace, freeNamespacePlace, numbered}
+use Rattle.tables.specs.Find.{processNumber, namespaceNumber, callerNamed, processNamed, namespaceNamed, freeFrom, freeProcessPlace, freeNamespacePlace, freeAs}
 use Rattle.tables.proofs.Tables.{length-processes, length-namespaces}
 
 -- ---- by name
@@ -86,36 +86,36 @@ module _ (l : List ℕ) where
   namespaces-start = refl
 
   module _ (i : ℕ) (inv : freeProcessPlace (tablesOf l) ≡ processesFrom (tablesOf l) i) where
-    pub processes-end : processPlaces ≤ i → Full ≡ numbered processNumber (freeProcessPlace (tablesOf l))
+    pub processes-end : processPlaces ≤ i → Full ≡ freeAs processNumber (freeProcessPlace (tablesOf l))
     unfolding processesFrom
-    processes-end h = let k = length-processes l in sym (ap (numbered processNumber) (inv ∙ free-none (λ (p : Process). p .live) (tablesOf l .processes) i freeProcess (omega arith)))
+    processes-end h = let k = length-processes l in sym (ap (freeAs processNumber) (inv ∙ free-none (λ (p : Process). p .live) (tablesOf l .processes) i freeProcess (omega arith)))
 
     module _ (p : Process) (h : i < processPlaces) (read : p ≡ processAt (tablesOf l) i) where
       pub processes-on : p .live ≡ true → freeProcessPlace (tablesOf l) ≡ processesFrom (tablesOf l) (i + 1)
       unfolding processesFrom processAt
       processes-on t = let k = length-processes l in inv ∙ free-on (λ (p : Process). p .live) (tablesOf l .processes) i freeProcess (omega arith) (sym (ap (λ (q : Process). q .live) read) ∙ t)
 
-      pub processes-here : (c : ℕ) → c ≡ processNumber i → p .live ≡ false → Place i c ≡ numbered processNumber (freeProcessPlace (tablesOf l))
+      pub processes-here : (c : ℕ) → c ≡ processNumber i → p .live ≡ false → Place i c ≡ freeAs processNumber (freeProcessPlace (tablesOf l))
       unfolding processesFrom processAt
       processes-here c e t =
           let k = length-processes l in
-          ap (Place i) e ∙ sym (ap (numbered processNumber) (inv ∙ free-here (λ (p : Process). p .live) (tablesOf l .processes) i freeProcess (omega arith) (sym (ap (λ (q : Process). q .live) read) ∙ t)))
+          ap (Place i) e ∙ sym (ap (freeAs processNumber) (inv ∙ free-here (λ (p : Process). p .live) (tablesOf l .processes) i freeProcess (omega arith) (sym (ap (λ (q : Process). q .live) read) ∙ t)))
 
   module _ (i : ℕ) (inv : freeNamespacePlace (tablesOf l) ≡ namespacesFrom (tablesOf l) i) where
-    pub namespaces-end : namespacePlaces ≤ i → Full ≡ numbered namespaceNumber (freeNamespacePlace (tablesOf l))
+    pub namespaces-end : namespacePlaces ≤ i → Full ≡ freeAs namespaceNumber (freeNamespacePlace (tablesOf l))
     unfolding namespacesFrom
-    namespaces-end h = let k = length-namespaces l in sym (ap (numbered namespaceNumber) (inv ∙ free-none (λ (n : Namespace). n .live) (tablesOf l .namespaces) i freeNamespace (omega arith)))
+    namespaces-end h = let k = length-namespaces l in sym (ap (freeAs namespaceNumber) (inv ∙ free-none (λ (n : Namespace). n .live) (tablesOf l .namespaces) i freeNamespace (omega arith)))
 
     module _ (n : Namespace) (h : i < namespacePlaces) (read : n ≡ namespaceAt (tablesOf l) i) where
       pub namespaces-on : n .live ≡ true → freeNamespacePlace (tablesOf l) ≡ namespacesFrom (tablesOf l) (i + 1)
       unfolding namespacesFrom namespaceAt
       namespaces-on t = let k = length-namespaces l in inv ∙ free-on (λ (n : Namespace). n .live) (tablesOf l .namespaces) i freeNamespace (omega arith) (sym (ap (λ (q : Namespace). q .live) read) ∙ t)
 
-      pub namespaces-here : (c : ℕ) → c ≡ namespaceNumber i → n .live ≡ false → Place i c ≡ numbered namespaceNumber (freeNamespacePlace (tablesOf l))
+      pub namespaces-here : (c : ℕ) → c ≡ namespaceNumber i → n .live ≡ false → Place i c ≡ freeAs namespaceNumber (freeNamespacePlace (tablesOf l))
       unfolding namespacesFrom namespaceAt
       namespaces-here c e t =
           let k = length-namespaces l in
-          ap (Place i) e ∙ sym (ap (numbered namespaceNumber) (inv ∙ free-here (λ (n : Namespace). n .live) (tablesOf l .namespaces) i freeNamespace (omega arith) (sym (ap (λ (q : Namespace). q .live) read) ∙ t)))
+          ap (Place i) e ∙ sym (ap (freeAs namespaceNumber) (inv ∙ free-here (λ (n : Namespace). n .live) (tablesOf l .namespaces) i freeNamespace (omega arith) (sym (ap (λ (q : Namespace). q .live) read) ∙ t)))
 
 pub ruleset finding = (
   caller-zero,

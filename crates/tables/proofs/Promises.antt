@@ -15,7 +15,7 @@ use Rattle.tables.specs.declared.find.Found.{Found}
 use Rattle.tables.specs.declared.find.Found.the-variants.{At, Nothing}
 use Rattle.tables.specs.declared.find.Free.the-variants.{Place, Full}
 use Rattle.tables.specs.Tables.{processPlaces, namespacePlaces, tablesOf}
-use Rattle.tables.specs.Find.{freeFrom, freeProcessPlace, freeNamespacePlace, numbered}
+use Rattle.tables.specs.Find.{freeFrom, freeProcessPlace, freeNamespacePlace, freeAs}
 use Rattle.tables.specs.Reply.{numberOf, replyOf, Outcome, refuse, isRefused, Promise}
 use Rattle.tables.proofs.Tables.{length-processes, length-namespaces}
 
@@ -52,10 +52,10 @@ free-namespace-below l i e =
 
 -- ---- what is free, as the code is told, with its number
 module _ (number : ℕ → ℕ) where
-  pub none-free : (f : Found) → Full ≡ numbered number f → f ≡ Nothing
+  pub none-free : (f : Found) → Full ≡ freeAs number f → f ≡ Nothing
   none-free Nothing e = refl
   none-free (At i) e = let z : _≡_ {A = ℕ} 0 1 = cc in absurd (omega arith)
 
-  pub free-at : (f : Found) (i n : ℕ) → Place i n ≡ numbered number f → (f ≡ At i) × (n ≡ number i)
+  pub free-at : (f : Found) (i n : ℕ) → Place i n ≡ freeAs number f → (f ≡ At i) × (n ≡ number i)
   free-at Nothing i n e = let z : _≡_ {A = ℕ} 0 1 = cc in absurd (omega arith)
   free-at (At j) i n e = let a : i ≡ j = cc in let b : n ≡ number j = cc in (rw a, rw a b)

@@ -11,7 +11,7 @@ use Rattle.tables.specs.declared.find.Free.{Free}
 use Rattle.tables.specs.declared.find.Free.the-variants.{Place, Full}
 use Rattle.tables.specs.Tables.{State, processAt, namespaceAt}
 
--- document 01: processes are numbered from 1, namespaces from 0: the number of what stands in place i
+-- document 01: processes are freeAs from 1, namespaces from 0: the number of what stands in place i
 abbrev pub processNumber : ℕ → ℕ
 processNumber i = suc i
 
@@ -42,7 +42,7 @@ freeProcessPlace s = freeFrom (λ (p : Process). p .live) 0 (s .processes)
 unfoldable pub freeNamespacePlace : State → Found
 freeNamespacePlace s = freeFrom (λ (n : Namespace). n .live) 0 (s .namespaces)
 
--- a place with its number, as the code answers it
-abbrev pub numbered : (ℕ → ℕ) → Found → Free
-numbered number (At i) = Place i (number i)
-numbered number Nothing = Full
+-- a free place with its number, as the code answers it
+abbrev pub freeAs : (ℕ → ℕ) → Found → Free
+freeAs number (At i) = Place i (number i)
+freeAs number Nothing = Full

@@ -11,12 +11,11 @@ use Rattle.rows.specs.Rows.{rows}
 use Rattle.lifted_map.specs.Lift.{Lifted, liftedWidth, liftedIn}
 use Rattle.records.specs.declared.Kind.{Kind}
 use Rattle.records.specs.declared.Kind.the-variants.{User, Group}
-use Rattle.records.specs.declared.Ids.{Ids}
 use Rattle.records.specs.declared.Process.{Process}
 use Rattle.records.specs.declared.MapState.the-variants.{Written}
 use Rattle.records.specs.declared.IdMap.{IdMap}
 use Rattle.records.specs.declared.Namespace.{Namespace}
-use Rattle.records.specs.Records.{maxGroups, processWidth, processOf, freeProcess, namespaceWidth, namespaceOf, freeNamespace}
+use Rattle.records.specs.Records.{processWidth, processOf, zeroIds, noGroups, freeProcess, namespaceWidth, namespaceOf, freeNamespace}
 
 pub record State : Type 0 where
   pub processes : List Process
@@ -115,17 +114,14 @@ abbrev pub clearLiftedMaps : State → ℕ → State
 clearLiftedMaps s i = putLiftedMap (putLiftedMap s User i noLift) Group i noLift
 
 -- ---- document 01: the fresh start
-abbrev pub allZero : Ids
-allZero = record { real = 0; effective = 0; saved = 0 }
-
 -- process 1 in namespace 0, all IDs 0, no supplementary groups, both sets full
 abbrev pub firstProcess : Process
 firstProcess = record {
   live = true;
   namespace = 0;
-  users = allZero;
-  groups = allZero;
-  supplementary = record { count = 0; ids = replicate maxGroups 0 };
+  users = zeroIds;
+  groups = zeroIds;
+  supplementary = noGroups;
   permitted = record { bits = fullSet };
   effective = record { bits = fullSet };
 }

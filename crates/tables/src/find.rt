@@ -3,7 +3,7 @@
 ghost use mathlib.Core.Path.{_≡_};
 ghost use Prim.Native.Nat.{_<_};
 ghost use Rattle.tables.specs.Tables.{processPlaces, tablesOf};
-ghost use Rattle.tables.specs.Find.{processNumber, namespaceNumber, callerNamed, processNamed, namespaceNamed, freeProcessPlace, freeNamespacePlace, numbered};
+ghost use Rattle.tables.specs.Find.{processNumber, namespaceNumber, callerNamed, processNamed, namespaceNamed, freeProcessPlace, freeNamespacePlace, freeAs};
 use crate::NAMESPACE_PLACES;
 use crate::PROCESS_PLACES;
 use crate::Tables;
@@ -75,7 +75,7 @@ pub fn named_namespace(t: &Tables, caller: usize, name: u64) -> Found
 
 // The lowest place with no process.
 pub fn free_process_place(t: &Tables) -> Free
-    ensures { λ r. ⌜ r ≡ numbered processNumber (freeProcessPlace (tablesOf (now (t .entry)))) ⌝ }
+    ensures { λ r. ⌜ r ≡ freeAs processNumber (freeProcessPlace (tablesOf (now (t .entry)))) ⌝ }
 {
     let mut i: usize = 0;
     while i < PROCESS_PLACES {
@@ -91,7 +91,7 @@ pub fn free_process_place(t: &Tables) -> Free
 
 // The lowest place with no namespace.
 pub fn free_namespace_place(t: &Tables) -> Free
-    ensures { λ r. ⌜ r ≡ numbered namespaceNumber (freeNamespacePlace (tablesOf (now (t .entry)))) ⌝ }
+    ensures { λ r. ⌜ r ≡ freeAs namespaceNumber (freeNamespacePlace (tablesOf (now (t .entry)))) ⌝ }
 {
     let mut i: usize = 0;
     while i < NAMESPACE_PLACES {

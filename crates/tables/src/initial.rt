@@ -11,36 +11,28 @@ use crate::processes::process_put;
 use capability::CapabilitySet;
 use idmap::Line;
 use idmap::NO_ID;
+use idmap::NO_LINE;
 use lifted_map::LIFTED_WIDTH;
 use lifted_map::LiftedMap;
-use records::GroupList;
 use records::IdMap;
-use records::Ids;
 use records::Kind;
-use records::MAX_GROUPS;
 use records::MapState;
+use records::NO_GROUPS;
 use records::Namespace;
 use records::Process;
+use records::ZERO_IDS;
 use records::namespaces::free_namespace;
 use records::processes::free_process;
 
 fn first_process() -> Process
     ensures { λ r. ⌜ r ≡ firstProcess ⌝ }
 {
-    let none = Ids {
-        real: 0,
-        effective: 0,
-        saved: 0,
-    };
     Process {
         live: true,
         namespace: 0,
-        users: none,
-        groups: none,
-        supplementary: GroupList {
-            count: 0,
-            ids: [0; MAX_GROUPS],
-        },
+        users: ZERO_IDS,
+        groups: ZERO_IDS,
+        supplementary: NO_GROUPS,
         permitted: CapabilitySet::FULL,
         effective: CapabilitySet::FULL,
     }
@@ -54,14 +46,9 @@ fn fixed_map() -> IdMap
         parent: 0,
         count: NO_ID,
     };
-    let none = Line {
-        inside: 0,
-        parent: 0,
-        count: 0,
-    };
     IdMap {
         state: MapState::Written(1),
-        lines: [fixed, none, none, none, none],
+        lines: [fixed, NO_LINE, NO_LINE, NO_LINE, NO_LINE],
     }
 }
 

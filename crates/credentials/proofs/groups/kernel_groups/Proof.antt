@@ -10,6 +10,5 @@ kernel-groups-spec =
     (λ c κs. search grouping)  -- to-kernel-each-requires
     (λ c κs. search grouping)  -- group-list-requires
     (λ c κs. search grouping)  -- all-ids-requires
-    (λ c κs. search grouping)  -- none-listed-requires
     (λ c. search grouping)  -- returns
     (λ c. search grouping))  -- returns-2

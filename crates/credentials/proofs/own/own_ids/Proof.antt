@@ -9,7 +9,6 @@ own-ids-spec =
     (λ c κs. search showing)  -- find-caller-requires
     (λ c. search showing)  -- enum-known-place
     (λ c. search showing)  -- enum-told
-    (λ c κs. search showing)  -- no-own-ids-requires
     (λ c. search showing)  -- returns
     (λ c κs. search showing)  -- process-at-requires
     (λ c κs. search showing)  -- seen-users-requires
