@@ -1,7 +1,7 @@
 -- The records of the tables, and the rows of words that hold them. Nothing here is to be believed but that the layout
 -- loses nothing: a record's words are read as the record (proofs/Records.antt). Assumes nothing.
 use Prim.Native.Nat.{ℕ, _+_, _*_, _%_, _^_}
-use mathlib.Core.List.{List, [], _∷_}
+use mathlib.Core.List.{List, []}
 use mathlib.Core.Bool.{Bool, true, false, cond}
 use lib.ListN.{length, getD, take, drop, replicate}
 use lib.Dec.{eqb}
@@ -33,8 +33,8 @@ lowAt r k = lowOf (getD r k 0)
 abbrev pub idsAt : List ℕ → ℕ → Ids
 idsAt r k = record { real = lowAt r k; effective = lowAt r (k + 1); saved = lowAt r (k + 2) }
 
-abbrev pub idsWords : Ids → List ℕ
-idsWords i = i .real ∷ i .effective ∷ i .saved ∷ []
+abbrev pub idsWidth : ℕ
+idsWidth = 3
 
 -- document 01: up to 16 supplementary groups
 abbrev pub maxGroups : ℕ
@@ -42,8 +42,17 @@ maxGroups = 16
 
 -- a process's row: whether it is live, its namespace, three user IDs, three group IDs, the number of its groups, as
 -- many places as there may be groups, and two sets
+abbrev pub usersAt : ℕ
+usersAt = 2
+
+abbrev pub groupsAt : ℕ
+groupsAt = usersAt + idsWidth
+
+abbrev pub supplementaryAt : ℕ
+supplementaryAt = groupsAt + idsWidth
+
 abbrev pub permittedAt : ℕ
-permittedAt = 9 + maxGroups
+permittedAt = supplementaryAt + 1 + maxGroups
 
 abbrev pub processWidth : ℕ
 processWidth = permittedAt + 2
@@ -52,9 +61,9 @@ abbrev pub processOf : List ℕ → Process
 processOf r = record {
   live = eqb (getD r 0 0) 1;
   namespace = getD r 1 0;
-  users = idsAt r 2;
-  groups = idsAt r 5;
-  supplementary = record { count = getD r 8 0; ids = tab (lowAt r) maxGroups 9 };
+  users = idsAt r usersAt;
+  groups = idsAt r groupsAt;
+  supplementary = record { count = getD r supplementaryAt 0; ids = tab (lowAt r) maxGroups (supplementaryAt + 1) };
   permitted = record { bits = getD r permittedAt 0 };
   effective = record { bits = getD r (permittedAt + 1) 0 };
 }
@@ -82,12 +91,15 @@ freeProcess = record {
 abbrev pub stateOf : ℕ → ℕ → MapState
 stateOf tag n = cond (eqb tag 1) (Written n) Unwritten
 
--- a map's words: whether it is written, with how many lines, and three words for each of as many lines as there may be
+-- a map's words: whether it is written, with how many lines, and the words of as many lines as there may be
+abbrev pub linesAt : ℕ
+linesAt = 2
+
 abbrev pub mapWidth : ℕ
-mapWidth = 2 + lineWords * maxLines
+mapWidth = linesAt + lineWords * maxLines
 
 abbrev pub mapOf : List ℕ → IdMap
-mapOf ws = record { state = stateOf (getD ws 0 0) (getD ws 1 0); lines = tab (λ (j : ℕ). lineAt ws (2 + lineWords * j)) maxLines 0 }
+mapOf ws = record { state = stateOf (getD ws 0 0) (getD ws 1 0); lines = tab (λ (j : ℕ). lineAt ws (linesAt + lineWords * j)) maxLines 0 }
 
 abbrev pub freeMap : IdMap
 freeMap = record { state = Unwritten; lines = replicate maxLines noLine }

@@ -12,6 +12,9 @@ use crate::words::flag_word;
 use capability::CapabilitySet;
 use idmap::TWO_TO_32;
 
+// The words of the IDs of one kind.
+const IDS_WIDTH: usize = 3;
+
 // Where the parts of a process stand in its row.
 const LIVE: usize = 0;
 
@@ -19,9 +22,9 @@ const NAMESPACE: usize = LIVE + 1;
 
 const USERS: usize = NAMESPACE + 1;
 
-const GROUPS: usize = USERS + 3;
+const GROUPS: usize = USERS + IDS_WIDTH;
 
-const SUPPLEMENTARY: usize = GROUPS + 3;
+const SUPPLEMENTARY: usize = GROUPS + IDS_WIDTH;
 
 const PERMITTED: usize = SUPPLEMENTARY + 1 + MAX_GROUPS;
 
