@@ -56,6 +56,9 @@ enum oarhatchet_errno {
     OARHATCHET_EUSERS = 87  /* level 33 asked for */
 };
 
+/* Answers OARHATCHET_TABLES, as the archive has it: a program may compare the two before its first call. */
+uint64_t oarhatchet_words(void);
+
 /*
  * Fills the array with the initial tables: process 1 in namespace 0, all its IDs 0, no groups, both capability sets
  * full.

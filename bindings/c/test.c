@@ -279,6 +279,7 @@ static void names_that_name_nothing(void)
 
 int main(void)
 {
+    CHECK((int64_t)oarhatchet_words(), OARHATCHET_TABLES);
     a_member_maps_itself_once();
     a_member_maps_nothing_else();
     a_member_maps_its_group_after_deny();

@@ -18,6 +18,7 @@ pub type Words = [u64; WORDS];
 pub const IDS: usize = 6 + MAX_GROUPS;
 
 unsafe extern "C" {
+    pub safe fn oarhatchet_words() -> u64;
     pub safe fn oarhatchet_initial(tables: &mut Words);
     pub safe fn oarhatchet_fork(tables: &mut Words, caller: u64) -> i64;
     pub safe fn oarhatchet_clone(tables: &mut Words, caller: u64, new_namespace: &mut u64) -> i64;

@@ -38,6 +38,7 @@ impl Tables {
     /// # Ok::<(), oarhatchet::Errno>(())
     /// ```
     pub fn new() -> Tables {
+        assert_eq!(ffi::oarhatchet_words(), ffi::WORDS as u64, "the archive's tables are of another size");
         let mut words = boxed(vec![0; ffi::WORDS]);
         ffi::oarhatchet_initial(&mut words);
         Tables { words }

@@ -5,7 +5,7 @@ ghost use mathlib.Core.Path.{_≡_};
 ghost use lib.ListN.{length};
 ghost use Rattle.prelude.specs.Parts.{putAt};
 ghost use Rattle.records.specs.declared.Kind.the-variants.{User, Group};
-ghost use Rattle.tables.specs.Tables.{tablesOf, initialTables};
+ghost use Rattle.tables.specs.Tables.{tablesWidth, tablesOf, initialTables};
 ghost use Rattle.tables.specs.Reply.{replyOf, numberOf};
 ghost use Rattle.hierarchy.specs.Lifted.{quick};
 ghost use Rattle.process.specs.Calls.{forkOf, cloneOf, unshareOf, setnsOf};
@@ -19,6 +19,7 @@ use credentials::translate::Way;
 use idmap::NO_ID;
 use records::Kind;
 use records::MAX_GROUPS;
+use tables::TABLES_WIDTH;
 use tables::Tables;
 use tables::answer::Answer;
 use tables::answer::Errno;
@@ -53,6 +54,14 @@ fn code(a: Answer) -> u64
         Answer::Id(x) => x as u64,
         Answer::Unmapped => NO_ID as u64,
     }
+}
+
+// How many words the lent array has, so that a program can compare its own declaration.
+#[no_mangle]
+pub extern "C" fn oarhatchet_words() -> u64
+    ensures { λ r. ⌜ r ≡ tablesWidth ⌝ }
+{
+    TABLES_WIDTH as u64
 }
 
 #[no_mangle]
