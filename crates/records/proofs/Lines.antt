@@ -15,7 +15,7 @@ use Rattle.prelude.proofs.Made.{tab-same, tab-next, tab-front, tab-whole}
 use Rattle.idmap.specs.declared.Line.{Line}
 use Rattle.idmap.specs.Line.{lineWords, lineOfWords, lineAt, linesIn}
 use Rattle.idmap.specs.Good.{maxLines}
-use Rattle.records.specs.Records.{linesAt, mapWidth, mapOf, mapFrom, linesOf}
+use Rattle.records.specs.Records.{firstLineAt, mapWidth, mapOf, mapFrom, linesOf}
 use Rattle.records.specs.declared.IdMap.{IdMap}
 use Rattle.records.proofs.Records.{map-whole, map-other}
 
@@ -40,20 +40,20 @@ lines-words ws (suc n) k h =
 
 -- ---- written_lines
 module _ (ws r : List ℕ) (long : length ws ≡ mapWidth) where
-  pub written-some : (n : ℕ) → n ≡ getD ws 1 0 → getD ws 0 0 ≡ 1 → n < maxLines → r ≡ part (n * lineWords) linesAt ws → linesIn r ≡ linesOf (mapOf ws)
+  pub written-some : (n : ℕ) → n ≡ getD ws 1 0 → getD ws 0 0 ≡ 1 → n < maxLines → r ≡ part (n * lineWords) firstLineAt ws → linesIn r ≡ linesOf (mapOf ws)
   unfolding part
   written-some n e t h q =
-      q′ ∙ rw (eq-eqb (getD ws 0 0) 1 t, ← e) (sym (tab-front (λ (j : ℕ). lineAt ws (linesAt + lineWords * j)) n maxLines 0 (omega arith)))
+      q′ ∙ rw (eq-eqb (getD ws 0 0) 1 t, ← e) (sym (tab-front (λ (j : ℕ). lineAt ws (firstLineAt + lineWords * j)) n maxLines 0 (omega arith)))
     where
-      q′ : linesIn r ≡ tab (λ (j : ℕ). lineAt ws (linesAt + lineWords * j)) n 0
-      q′ = ap linesIn q ∙ lines-words ws n linesAt (omega arith)
+      q′ : linesIn r ≡ tab (λ (j : ℕ). lineAt ws (firstLineAt + lineWords * j)) n 0
+      q′ = ap linesIn q ∙ lines-words ws n firstLineAt (omega arith)
 
-  pub written-all : (n : ℕ) → n ≡ getD ws 1 0 → getD ws 0 0 ≡ 1 → maxLines ≤ n → r ≡ part (lineWords * maxLines) linesAt ws → linesIn r ≡ linesOf (mapOf ws)
+  pub written-all : (n : ℕ) → n ≡ getD ws 1 0 → getD ws 0 0 ≡ 1 → maxLines ≤ n → r ≡ part (lineWords * maxLines) firstLineAt ws → linesIn r ≡ linesOf (mapOf ws)
   unfolding part
   written-all n e t h q =
-      ap linesIn q ∙ lines-words ws maxLines linesAt (omega arith) ∙ rw (eq-eqb (getD ws 0 0) 1 t, ← e) (sym (tab-whole (λ (j : ℕ). lineAt ws (linesAt + lineWords * j)) n maxLines 0 h))
+      ap linesIn q ∙ lines-words ws maxLines firstLineAt (omega arith) ∙ rw (eq-eqb (getD ws 0 0) 1 t, ← e) (sym (tab-whole (λ (j : ℕ). lineAt ws (firstLineAt + lineWords * j)) n maxLines 0 h))
 
-  pub written-none : (getD ws 0 0 ≡ 1 → ⊥) → r ≡ part 0 linesAt ws → linesIn r ≡ linesOf (mapOf ws)
+  pub written-none : (getD ws 0 0 ≡ 1 → ⊥) → r ≡ part 0 firstLineAt ws → linesIn r ≡ linesOf (mapOf ws)
   unfolding part linesIn
   written-none t q = ap linesIn q ∙ rw (ne-eqb (getD ws 0 0) 1 t)
 

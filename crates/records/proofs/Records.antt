@@ -23,7 +23,7 @@ use Rattle.records.specs.declared.IdMap.{IdMap}
 use Rattle.records.specs.declared.Namespace.{Namespace}
 use Rattle.records.specs.declared.Ids.{Ids}
 use Rattle.records.specs.declared.Process.{Process}
-use Rattle.records.specs.Records.{flagWord, idsAt, maxGroups, processWidth, freeProcess, processOf, processFrom, stateOf, stateTag, stateCount, linesAt, mapWidth, mapAt, mapOf, mapFrom, freeMap, denyAt, namespaceWidth, namespaceOf, namespaceFrom, freeNamespace}
+use Rattle.records.specs.Records.{flagWord, idsAt, maxGroups, processWidth, freeProcess, processOf, processFrom, stateOf, stateTag, stateCount, firstLineAt, mapWidth, mapAt, mapOf, mapFrom, freeMap, denyAt, namespaceWidth, namespaceOf, namespaceFrom, freeNamespace}
 
 pub flag-round : (b : Bool) → eqb (flagWord b) 1 ≡ b
 flag-round true = refl
@@ -80,8 +80,8 @@ state-round Unwritten = refl
 state-round (Written n) = refl
 
 -- a map from its words, line by line
-pub map-read : (ws : List ℕ) (a b c d e : Line) (s : MapState) → a ≡ lineAt ws (linesAt + lineWords * 0) → b ≡ lineAt ws (linesAt + lineWords * 1) → c ≡ lineAt ws (linesAt + lineWords * 2)
-    → d ≡ lineAt ws (linesAt + lineWords * 3) → e ≡ lineAt ws (linesAt + lineWords * 4)
+pub map-read : (ws : List ℕ) (a b c d e : Line) (s : MapState) → a ≡ lineAt ws (firstLineAt + lineWords * 0) → b ≡ lineAt ws (firstLineAt + lineWords * 1) → c ≡ lineAt ws (firstLineAt + lineWords * 2)
+    → d ≡ lineAt ws (firstLineAt + lineWords * 3) → e ≡ lineAt ws (firstLineAt + lineWords * 4)
     → s ≡ stateOf (getD ws 0 0) (getD ws 1 0) → _≡_ {A = IdMap} (record { state = s; lines = a ∷ b ∷ c ∷ d ∷ e ∷ [] }) (mapOf ws)
 map-read ws a b c d e s p q r t u v = λ i. record { state = v i; lines = p i ∷ q i ∷ r i ∷ t i ∷ u i ∷ [] }
 

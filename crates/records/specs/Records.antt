@@ -92,14 +92,14 @@ abbrev pub stateOf : ℕ → ℕ → MapState
 stateOf tag n = cond (eqb tag 1) (Written n) Unwritten
 
 -- a map's words: whether it is written, with how many lines, and the words of as many lines as there may be
-abbrev pub linesAt : ℕ
-linesAt = 2
+abbrev pub firstLineAt : ℕ
+firstLineAt = 2
 
 abbrev pub mapWidth : ℕ
-mapWidth = linesAt + lineWords * maxLines
+mapWidth = firstLineAt + lineWords * maxLines
 
 abbrev pub mapOf : List ℕ → IdMap
-mapOf ws = record { state = stateOf (getD ws 0 0) (getD ws 1 0); lines = tab (λ (j : ℕ). lineAt ws (linesAt + lineWords * j)) maxLines 0 }
+mapOf ws = record { state = stateOf (getD ws 0 0) (getD ws 1 0); lines = tab (λ (j : ℕ). lineAt ws (firstLineAt + lineWords * j)) maxLines 0 }
 
 abbrev pub freeMap : IdMap
 freeMap = record { state = Unwritten; lines = replicate maxLines noLine }

@@ -4,7 +4,7 @@ ghost use Prim.Native.Nat.{_+_, _*_, _<_};
 ghost use lib.ListN.{length};
 ghost use Rattle.idmap.specs.Good.{maxLines};
 ghost use Rattle.idmap.specs.Line.{lineWords, lineAt, linesIn};
-ghost use Rattle.records.specs.Records.{stateOf, stateTag, stateCount, linesAt, mapWidth, mapAt, mapOf, mapFrom, linesOf, freeMap, freeNamespace, namespaceWidth, namespaceOf, namespaceFrom};
+ghost use Rattle.records.specs.Records.{stateOf, stateTag, stateCount, firstLineAt, mapWidth, mapAt, mapOf, mapFrom, linesOf, freeMap, freeNamespace, namespaceWidth, namespaceOf, namespaceFrom};
 use crate::IdMap;
 use crate::Kind;
 use crate::MapState;
@@ -91,7 +91,7 @@ fn state_count(s: MapState) -> u64
 // Line `i` of a map's words.
 fn line_of(words: &[u64], i: usize) -> Line
     requires { ⌜ (i < maxLines) × (length (now words) ≡ mapWidth) ⌝ }
-    ensures { λ r. ⌜ r ≡ lineAt (now (words .entry)) (linesAt + lineWords * i) ⌝ }
+    ensures { λ r. ⌜ r ≡ lineAt (now (words .entry)) (firstLineAt + lineWords * i) ⌝ }
 {
     let at = LINES + LINE_WORDS * i;
     Line {
