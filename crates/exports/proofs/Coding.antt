@@ -1,5 +1,5 @@
 -- An exported call's promise is that of the call it stands for. Assumes nothing.
-use Prim.Native.Nat.{ℕ, _+_, _≤_, _<_}
+use Prim.Native.Nat.{ℕ, _+_, _-_, _^_, _≤_, _<_}
 use mathlib.Core.Path.{_≡_, ap, _∙_, subst}
 use mathlib.Core.List.{List}
 use native.Mathlib.Omega.{arith}
@@ -11,6 +11,7 @@ use Rattle.prelude.proofs.Parts.{put-step, put-all}
 use Rattle.credentials.specs.declared.own.OwnAnswer.the-variants.{Told, NotTold}
 use Rattle.credentials.specs.declared.own.OwnResult.{OwnResult}
 use Rattle.tables.specs.declared.answer.Errno.{Errno}
+use Rattle.tables.specs.declared.answer.Errno.the-variants.{EPERM, ESRCH, EAGAIN, EINVAL, ENOSPC, ERANGE, EUSERS}
 use Rattle.tables.specs.declared.answer.Answer.{Answer}
 use Rattle.tables.specs.declared.answer.Answer.the-variants.{Refused}
 use Rattle.tables.specs.Reply.{Reply, replyOf, numberOf, Outcome, isRefused, Promise}
@@ -18,8 +19,24 @@ use Rattle.mapping.specs.Calls.{ReadOutcome}
 use Rattle.exports.specs.Codes.{negated, codeOf, Coded, CodedRead, spaceAfter, idsRow, CodedIds}
 
 -- a refusal's number
-pub refusal-is : (e f : Errno) (n : ℕ) → e ≡ f → n ≡ negated (numberOf f) → n ≡ negated (numberOf e)
-refusal-is e f n p q = rw p q
+number-some : (e : Errno) → (1 ≤ numberOf e) × (numberOf e < 2 ^ 64)
+number-some EPERM = (omega arith, omega arith)
+number-some ESRCH = (omega arith, omega arith)
+number-some EAGAIN = (omega arith, omega arith)
+number-some EINVAL = (omega arith, omega arith)
+number-some ENOSPC = (omega arith, omega arith)
+number-some ERANGE = (omega arith, omega arith)
+number-some EUSERS = (omega arith, omega arith)
+
+module _ (e : Errno) (n : ℕ) (q : n ≡ numberOf e) where
+  pub number-over : 1 ≤ n
+  number-over = rw q (number-some e .0)
+
+  pub number-below : n - 1 ≤ 2 ^ 64 - 1
+  number-below = let h = number-some e in omega arith
+
+  pub refusal-is : 2 ^ 64 - 1 - (n - 1) ≡ negated (numberOf e)
+  refusal-is = let h = number-some e in omega arith
 
 pub code-refused : (a : Answer) (e : Errno) (n : ℕ) → a ≡ Refused e → n ≡ negated (numberOf e) → n ≡ codeOf (replyOf a)
 code-refused a e n p q = rw p q
@@ -61,4 +78,4 @@ put-whole l vs t i fits h k e = put-all l 0 vs t i (omega arith) h k e
 
 pub ruleset stores = (paste-zero, put-first, put-whole, length-set, needs)
 
-pub ruleset coding = (ids-told, ids-refused, refusal-is, code-refused, coded, coded-space, coded-read, coded-question, needs)
+pub ruleset coding = (ids-told, ids-refused, number-over, number-below, refusal-is, code-refused, coded, coded-space, coded-read, coded-question, needs)

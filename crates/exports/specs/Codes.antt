@@ -1,5 +1,5 @@
 -- Answers as numbers, for programs in other languages. Assumes nothing.
-use Prim.Native.Nat.{ℕ, _+_, _-_}
+use Prim.Native.Nat.{ℕ, _+_, _-_, _^_}
 use mathlib.Core.Path.{_≡_}
 use mathlib.Core.Bool.{true}
 use mathlib.Core.List.{List, _∷_}
@@ -18,7 +18,7 @@ use Rattle.credentials.specs.declared.own.OwnResult.{OwnResult}
 
 -- a refusal's number, negated, as a signed 64-bit number has it
 abbrev pub negated : ℕ → ℕ
-negated e = 18446744073709551616 - e
+negated e = 2 ^ 64 - e
 
 -- a process's own three user IDs and three group IDs
 abbrev pub ownThrees : ℕ

@@ -24,18 +24,29 @@ use tables::Tables;
 use tables::answer::Answer;
 use tables::answer::Errno;
 
+// The number of a refusal.
+fn number(e: Errno) -> u64
+    ensures { λ r. ⌜ r ≡ numberOf e ⌝ }
+{
+    match e {
+        Errno::EPERM => 1,
+        Errno::ESRCH => 3,
+        Errno::EAGAIN => 11,
+        Errno::EINVAL => 22,
+        Errno::ENOSPC => 28,
+        Errno::ERANGE => 34,
+        Errno::EUSERS => 87,
+    }
+}
+
+// The bits of -1.
+const MINUS_ONE: u64 = 18446744073709551615;
+
+// The number of a refusal, negated.
 fn refusal(e: Errno) -> u64
     ensures { λ r. ⌜ r ≡ negated (numberOf e) ⌝ }
 {
-    match e {
-        Errno::EPERM => 18446744073709551615,
-        Errno::ESRCH => 18446744073709551613,
-        Errno::EAGAIN => 18446744073709551605,
-        Errno::EINVAL => 18446744073709551594,
-        Errno::ENOSPC => 18446744073709551588,
-        Errno::ERANGE => 18446744073709551582,
-        Errno::EUSERS => 18446744073709551529,
-    }
+    MINUS_ONE - (number(e) - 1)
 }
 
 // The number of an answer.
