@@ -30,8 +30,8 @@ use Rattle.hierarchy.specs.Walks.{Translation, capableIn}
 use Rattle.hierarchy.specs.Lifted.{fromKernel, byLiftedMaps}
 use Rattle.process.specs.Calls.{forkOf, isMapped, knowsItself, below, withNamespace, entered, cloneOf, unshareOf, setnsOf}
 use Rattle.process.specs.declared.Making.{Making}
-use Rattle.process.specs.declared.Making.the-variants.{Refuses, By}
-use Rattle.process.specs.Making.{Makes, Known}
+use Rattle.process.specs.declared.Making.the-variants.{Barred, By}
+use Rattle.process.specs.Making.{Makes, HasRoom}
 
 -- ---- knows_itself
 module _ (s : State) (p : Process) (u : Translated) (m : Bool) (f : u ≡ fromKernel s User (p .namespace) (p .users .effective)) (e : m ≡ isMapped u) where
@@ -74,36 +74,36 @@ module _ (l : List ℕ) (c : ℕ) (r : Found) (f : r ≡ callerNamed (tablesOf l
 
 -- ---- clone and unshare alike, by any translation
 module _ (by : Translation) (s : State) (c : ℕ) (r : Found) (f : r ≡ callerNamed s c) where
-  pub maker-no-caller : r ≡ Nothing → Makes by s c (Refuses ESRCH)
+  pub maker-no-caller : r ≡ Nothing → Makes by s c (Barred ESRCH)
   maker-no-caller n = λ next. rw (sym f ∙ n)
 
   module _ (i : ℕ) (v : r ≡ At i) (p : Process) (e : p ≡ processAt s i) (own : Namespace) (o : own ≡ namespaceAt s (p .namespace)) where
-    pub maker-deep : maxLevel ≤ own .level → Makes by s c (Refuses EUSERS)
+    pub maker-deep : maxLevel ≤ own .level → Makes by s c (Barred EUSERS)
     maker-deep h = λ next. rw (sym f ∙ v, ← e, ← o, le-leb maxLevel (own .level) h)
 
     module _ (h : own .level < maxLevel) (k : Bool) (m : k ≡ knowsItself by p) where
-      pub maker-unmapped : k ≡ false → Makes by s c (Refuses EPERM)
+      pub maker-unmapped : k ≡ false → Makes by s c (Barred EPERM)
       maker-unmapped t = λ next. rw (sym f ∙ v, ← e, ← o, lt-leb maxLevel (own .level) h, ← m, t)
 
       module _ (t : k ≡ true) (a : Free) (b : a ≡ freeAs namespaceNumber (freeNamespacePlace s)) where
-        pub maker-no-space : a ≡ Full → Makes by s c (Refuses ENOSPC)
+        pub maker-no-space : a ≡ Full → Makes by s c (Barred ENOSPC)
         maker-no-space z = λ next. rw (sym f ∙ v, ← e, ← o, lt-leb maxLevel (own .level) h, ← m, t, none-free namespaceNumber (freeNamespacePlace s) (sym z ∙ b))
 
-        pub maker-found : (n d : ℕ) → a ≡ Place n d → Makes by s c (By i n d) × Known s (By i n d)
+        pub maker-found : (n d : ℕ) → a ≡ Place n d → Makes by s c (By i n d) × HasRoom s (By i n d)
         maker-found n d w =
             let free = free-at namespaceNumber (freeNamespacePlace s) n d (sym w ∙ b) in
             (λ next. rw (sym f ∙ v, ← e, ← o, lt-leb maxLevel (own .level) h, ← m, t, free .0), (rw (← e, ← o) h, free .1))
 
-pub nothing-known : (s : State) (e : Errno) → Known s (Refuses e)
-nothing-known s e = tt
+pub no-room-needed : (s : State) (e : Errno) → HasRoom s (Barred e)
+no-room-needed s e = tt
 
 -- ---- clone and unshare, of what they have in common
 module _ (by : Translation) (l : List ℕ) (c : ℕ) (r : Making) (f : Makes by (tablesOf l) c r) where
-  pub clone-refused : (e : Errno) → r ≡ Refuses e → Promise (Refused e) l l (cloneOf by (tablesOf l) c)
+  pub clone-refused : (e : Errno) → r ≡ Barred e → Promise (Refused e) l l (cloneOf by (tablesOf l) c)
   unfolding cloneOf
   clone-refused e q = refuses e l (cloneOf by (tablesOf l) c) (sym (f _ ∙ rw q))
 
-  pub unshare-refused : (e : Errno) → r ≡ Refuses e → Promise (Refused e) l l (unshareOf by (tablesOf l) c)
+  pub unshare-refused : (e : Errno) → r ≡ Barred e → Promise (Refused e) l l (unshareOf by (tablesOf l) c)
   unfolding unshareOf
   unshare-refused e q = refuses e l (unshareOf by (tablesOf l) c) (sym (f _ ∙ rw q))
 
@@ -112,7 +112,7 @@ module _ (by : Translation) (l : List ℕ) (c : ℕ) (r : Making) (f : Makes by 
     unfolding cloneOf
     clone-no-place q g z = refuses EAGAIN l (cloneOf by (tablesOf l) c) (sym (f _ ∙ rw (v, none-free processNumber (freeProcessPlace (tablesOf l)) (sym z ∙ g))))
 
-    module _ (m : Known (tablesOf l) r) (p : Process) (e : p ≡ processAt (tablesOf l) i) (own : Namespace) (o : own ≡ namespaceAt (tablesOf l) (p .namespace)) where
+    module _ (m : HasRoom (tablesOf l) r) (p : Process) (e : p ≡ processAt (tablesOf l) i) (own : Namespace) (o : own ≡ namespaceAt (tablesOf l) (p .namespace)) where
       pub level-below : own .level < maxLevel
       level-below = rw (o, e) ((rw v at m) .0)
 
@@ -156,7 +156,7 @@ pub ruleset helpers = (knows-user, knows-no-user, member-is, child-is, made-is, 
 
 pub ruleset forks = (fork-no-caller, fork-full, fork-done, needs)
 
-pub ruleset makers = (maker-no-caller, maker-deep, maker-unmapped, maker-no-space, nothing-known, not-taken, not-left, needs)
+pub ruleset makers = (maker-no-caller, maker-deep, maker-unmapped, maker-no-space, no-room-needed, not-taken, not-left, needs)
 
 pub ruleset clones = (clone-refused, clone-no-place, level-below, clone-done, needs)
 

@@ -5,7 +5,7 @@ ghost use Rattle.tables.specs.Tables.{maxLevel, tablesOf};
 ghost use Rattle.tables.specs.Reply.{Promise};
 ghost use Rattle.hierarchy.specs.Lifted.{byLiftedMaps, quick};
 ghost use Rattle.process.specs.Calls.{forkOf, isMapped, knowsItself, below, withNamespace, entered, cloneOf, unshareOf, setnsOf};
-ghost use Rattle.process.specs.Making.{Makes, Known};
+ghost use Rattle.process.specs.Making.{Makes, HasRoom};
 use capability::CAP_SYS_ADMIN;
 use capability::CapabilitySet;
 use hierarchy::capable::capable;
@@ -119,32 +119,32 @@ fn member(p: Process, namespace: u64) -> Process
 
 // A refusal; or the place of the process that makes a namespace, and the free place for this with its number.
 enum Making {
-    Refuses(Errno),
+    Barred(Errno),
     By(usize, usize, u64),
 }
 
 // Clone and unshare alike, up to the free namespace.
 fn find_maker(t: &Tables, caller: u64) -> Making
     ensures told { λ r. ⌜ Makes (byLiftedMaps (tablesOf (now (t .entry)))) (tablesOf (now (t .entry))) caller r ⌝ }
-    ensures known { λ r. ⌜ Known (tablesOf (now (t .entry))) r ⌝ }
+    ensures room { λ r. ⌜ HasRoom (tablesOf (now (t .entry))) r ⌝ }
 {
     // First always: the caller must exist, else 3.
     let Found::At(place) = find_caller(t, caller) else {
-        return Making::Refuses(Errno::ESRCH);
+        return Making::Barred(Errno::ESRCH);
     };
     let p = process_at(t, place);
     let own = namespace_at(t, p.namespace as usize);
     // 87 if the caller's level is 32.
     if MAX_LEVEL <= own.level {
-        return Making::Refuses(Errno::EUSERS);
+        return Making::Barred(Errno::EUSERS);
     }
     // 1 if its effective user or group ID has no translation into its own namespace.
     if !knows_itself(t, p) {
-        return Making::Refuses(Errno::EPERM);
+        return Making::Barred(Errno::EPERM);
     }
     // 28 if no namespace is free.
     let Free::Place(free, number) = free_namespace_place(t) else {
-        return Making::Refuses(Errno::ENOSPC);
+        return Making::Barred(Errno::ENOSPC);
     };
     Making::By(place, free, number)
 }
@@ -157,7 +157,7 @@ pub fn clone(t: &mut Tables, caller: u64) -> Answer
 {
     let made = find_maker(t, caller);
     match made {
-        Making::Refuses(e) => Answer::Refused(e),
+        Making::Barred(e) => Answer::Refused(e),
         Making::By(place, n, name) => {
             // For clone, 11 if no process is free.
             let Free::Place(free, number) = free_process_place(t) else {
@@ -179,7 +179,7 @@ pub fn unshare(t: &mut Tables, caller: u64) -> Answer
 {
     let made = find_maker(t, caller);
     match made {
-        Making::Refuses(e) => Answer::Refused(e),
+        Making::Barred(e) => Answer::Refused(e),
         Making::By(place, n, name) => {
             let p = process_at(t, place);
             let own = namespace_at(t, p.namespace as usize);
