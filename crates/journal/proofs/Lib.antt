@@ -1,0 +1,13 @@
+pub mod Layouts
+pub mod Puts
+pub mod Gets
+pub mod Records
+pub mod Inside
+pub mod Writes
+pub mod BigEndian
+pub mod Table
+pub mod Written
+pub mod Found
+pub mod Whole
+pub mod Writable
+pub mod Examples
