@@ -7,7 +7,7 @@ use crate::answer::{Answer, Rule, Rule::*};
 use crate::call::Call;
 use crate::id_map::Kind;
 use crate::process::Process;
-use crate::script::{self, Item, Malformed};
+use crate::script::{self, Item};
 use crate::show;
 use crate::tables::Tables;
 
@@ -218,9 +218,7 @@ impl Counts {
                     tables = Tables::initial();
                     self.one_more("line", Outcome::Is("fresh"));
                 }
-                Item::Malformed(kind) => {
-                    self.one_more("malformed", Outcome::Is(malformed_name(kind)))
-                }
+                Item::Malformed(kind) => self.one_more("malformed", Outcome::Is(kind.name())),
                 Item::Call(call) => {
                     let before = tables.processes.get(&call.caller()).cloned();
                     let answer = tables.answer(&call);
@@ -299,23 +297,5 @@ fn done(call: &Call, before: Option<&Process>, tables: &Tables) -> &'static str 
             }
         }
         _ => "done",
-    }
-}
-
-fn malformed_name(kind: Malformed) -> &'static str {
-    match kind {
-        Malformed::LineTooLong => "line too long",
-        Malformed::UnknownWord => "unknown word",
-        Malformed::TooFewArguments => "too few arguments",
-        Malformed::TooManyArguments => "too many arguments",
-        Malformed::FreshWithArguments => "fresh with arguments",
-        Malformed::NotANumber => "not a number",
-        Malformed::NumberTooLarge => "number too large",
-        Malformed::NotAText => "not a text",
-        Malformed::BadEscape => "bad escape",
-        Malformed::MissingQuote => "missing quote",
-        Malformed::JunkAfterQuote => "junk after quote",
-        Malformed::BufferTooLong => "buffer too long",
-        Malformed::TooManyIds => "too many IDs",
     }
 }

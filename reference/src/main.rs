@@ -118,7 +118,7 @@ fn print_difference(
     difference: &Difference,
 ) -> io::Result<()> {
     writeln!(output, "script:")?;
-    output.write_all(&difference.script)?;
+    output.write_all(&difference.input)?;
     writeln!(output, "\nreference:")?;
     output.write_all(&difference.reference)?;
     writeln!(output, "\n{program}:")?;

@@ -35,8 +35,8 @@ fn a_list_has_its_length_and_its_seed_decides_it() {
 fn a_program_that_echoes_differs_on_one_line() {
     let result = compare(1_000, "cat", 1, true).expect("cat runs");
     let difference = result.difference.expect("cat answers nothing right");
-    assert_eq!(difference.script.iter().filter(|b| **b == b'\n').count(), 1);
-    assert_eq!(difference.program, difference.script);
+    assert_eq!(difference.input.iter().filter(|b| **b == b'\n').count(), 1);
+    assert_eq!(difference.program, difference.input);
 }
 
 #[test]
