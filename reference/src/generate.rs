@@ -2,6 +2,8 @@
 
 mod bite;
 mod choose;
+mod damage;
+mod journals;
 mod map_text;
 mod odd;
 mod plan;
@@ -11,6 +13,8 @@ use crate::call::Call;
 use crate::random::Random;
 use crate::script::MAX_LINE;
 use crate::tables::Tables;
+
+pub use journals::Journals;
 
 /// Each stretch of so many calls has one line that is too long and one that just is not.
 const LONG_LINE_EVERY: u64 = 20_000;

@@ -1,15 +1,18 @@
-//! The commands `run`, `generate` and `compare`.
+//! The commands: see `USAGE`.
 
-use std::io::{self, BufWriter, Write};
+use std::io::{self, BufWriter, Read, Write};
 use std::process::ExitCode;
 use std::time::{SystemTime, UNIX_EPOCH};
 
 use reference::compare::{self, Difference};
 use reference::count::Counts;
 use reference::generate::Generator;
-use reference::script;
+use reference::{hex, journal, script};
 
 const USAGE: &str = "usage: reference run
+       reference record
+       reference replay
+       reference unhex
        reference generate SEED LISTS LENGTH [--without-translate] [--count]
        reference compare N PROGRAM [--seed S] [--without-translate]";
 
@@ -20,6 +23,9 @@ fn main() -> ExitCode {
     let arguments: Vec<String> = std::env::args().skip(1).collect();
     let command = match arguments.split_first() {
         Some((word, rest)) if word == "run" && rest.is_empty() => run(),
+        Some((word, rest)) if word == "record" && rest.is_empty() => record(),
+        Some((word, rest)) if word == "replay" && rest.is_empty() => replay(),
+        Some((word, rest)) if word == "unhex" && rest.is_empty() => unhex(),
         Some((word, rest)) if word == "generate" => generate(rest),
         Some((word, rest)) if word == "compare" => compare(rest),
         _ => Err(usage()),
@@ -36,6 +42,31 @@ fn usage() -> io::Error {
 
 fn run() -> io::Result<ExitCode> {
     script::run(io::stdin().lock(), BufWriter::new(io::stdout().lock()))?;
+    Ok(ExitCode::SUCCESS)
+}
+
+fn record() -> io::Result<ExitCode> {
+    let halt = journal::record(io::stdin().lock(), BufWriter::new(io::stdout().lock()))?;
+    if let Some(halt) = halt {
+        eprintln!("{halt}");
+    }
+    Ok(ExitCode::from(u8::from(halt.is_some())))
+}
+
+fn replay() -> io::Result<ExitCode> {
+    journal::replay(io::stdin().lock(), BufWriter::new(io::stdout().lock()))?;
+    Ok(ExitCode::SUCCESS)
+}
+
+/// Writes the bytes of a text of hexadecimal words.
+fn unhex() -> io::Result<ExitCode> {
+    let mut text = String::new();
+    io::stdin().lock().read_to_string(&mut text)?;
+    let bytes = hex::read(&text).map_err(|line| {
+        let message = format!("line {line}: a word is no bytes in hexadecimal");
+        io::Error::new(io::ErrorKind::InvalidData, message)
+    })?;
+    io::stdout().lock().write_all(&bytes)?;
     Ok(ExitCode::SUCCESS)
 }
 
