@@ -3,6 +3,9 @@
 
 mod lines;
 mod program;
+mod record;
+pub mod records;
+mod replay;
 pub mod shrink;
 
 use std::io;
@@ -12,6 +15,9 @@ use crate::random::Random;
 use crate::script::{self, Item};
 use program::Program;
 use shrink::Shrinker;
+
+pub use record::compare_record;
+pub use replay::compare_replay;
 
 /// Scripts are given to the other program in batches of about so many calls.
 const BATCH: u64 = 20_000;
@@ -28,6 +34,7 @@ pub struct Difference {
 #[derive(Default)]
 pub struct Comparison {
     pub calls: u64,
+    /// Lists of calls: scripts or journals.
     pub lists: u64,
     pub difference: Option<Difference>,
 }

@@ -4,7 +4,7 @@ use std::io::{self, BufWriter, Read, Write};
 use std::process::ExitCode;
 use std::time::{SystemTime, UNIX_EPOCH};
 
-use reference::compare::{self, Difference};
+use reference::compare::{self, Comparison, Difference};
 use reference::count::Counts;
 use reference::generate::Generator;
 use reference::{hex, journal, script};
@@ -14,20 +14,25 @@ const USAGE: &str = "usage: reference run
        reference replay
        reference unhex
        reference generate SEED LISTS LENGTH [--without-translate] [--count]
-       reference compare N PROGRAM [--seed S] [--without-translate]";
+       reference compare N PROGRAM [--seed S] [--without-translate]
+       reference compare-record N PROGRAM [--seed S]
+       reference compare-replay N PROGRAM [--seed S]";
 
 /// The exit status for a wrong command line, or for an error of the system.
 const TROUBLE: u8 = 2;
 
 fn main() -> ExitCode {
     let arguments: Vec<String> = std::env::args().skip(1).collect();
-    let command = match arguments.split_first() {
-        Some((word, rest)) if word == "run" && rest.is_empty() => run(),
-        Some((word, rest)) if word == "record" && rest.is_empty() => record(),
-        Some((word, rest)) if word == "replay" && rest.is_empty() => replay(),
-        Some((word, rest)) if word == "unhex" && rest.is_empty() => unhex(),
-        Some((word, rest)) if word == "generate" => generate(rest),
-        Some((word, rest)) if word == "compare" => compare(rest),
+    let words: Vec<&str> = arguments.iter().map(String::as_str).collect();
+    let command = match words[..] {
+        ["run"] => run(),
+        ["record"] => record(),
+        ["replay"] => replay(),
+        ["unhex"] => unhex(),
+        ["generate", ref rest @ ..] => generate(rest),
+        ["compare", ref rest @ ..] => compare(rest),
+        ["compare-record", ref rest @ ..] => compare_record(rest),
+        ["compare-replay", ref rest @ ..] => compare_replay(rest),
         _ => Err(usage()),
     };
     command.unwrap_or_else(|error| {
@@ -70,12 +75,12 @@ fn unhex() -> io::Result<ExitCode> {
     Ok(ExitCode::SUCCESS)
 }
 
-fn generate(arguments: &[String]) -> io::Result<ExitCode> {
+fn generate(arguments: &[&str]) -> io::Result<ExitCode> {
     let mut with_translate = true;
     let mut count = false;
     let mut numbers = Vec::new();
     for argument in arguments {
-        match argument.as_str() {
+        match *argument {
             "--without-translate" => with_translate = false,
             "--count" => count = true,
             number => numbers.push(number.parse::<u64>().map_err(|_| usage())?),
@@ -102,14 +107,19 @@ fn generate(arguments: &[String]) -> io::Result<ExitCode> {
     Ok(ExitCode::from(u8::from(count && !counts.complete())))
 }
 
-fn compare(arguments: &[String]) -> io::Result<ExitCode> {
+/// What is to be compared.
+struct Task<'a> {
+    calls: u64,
+    program: &'a str,
+    seed: u64,
+}
+
+fn task<'a>(arguments: &[&'a str]) -> io::Result<Task<'a>> {
     let mut seed = None;
-    let mut with_translate = true;
     let mut words = Vec::new();
     let mut rest = arguments.iter();
     while let Some(argument) = rest.next() {
-        match argument.as_str() {
-            "--without-translate" => with_translate = false,
+        match *argument {
             "--seed" => {
                 let number = rest.next().and_then(|text| text.parse().ok());
                 seed = Some(number.ok_or_else(usage)?);
@@ -121,11 +131,62 @@ fn compare(arguments: &[String]) -> io::Result<ExitCode> {
         return Err(usage());
     };
     let calls = calls.parse().map_err(|_| usage())?;
-    let seed = seed.unwrap_or_else(seed_from_clock);
-    let result = compare::compare(calls, program, seed, with_translate)?;
+    Ok(Task { calls, program, seed: seed.unwrap_or_else(seed_from_clock) })
+}
+
+fn seed_from_clock() -> u64 {
+    SystemTime::now().duration_since(UNIX_EPOCH).map_or(0, |since| since.as_nanos() as u64)
+}
+
+fn compare(arguments: &[&str]) -> io::Result<ExitCode> {
+    let is_flag = |word: &&str| *word == "--without-translate";
+    let with_translate = !arguments.iter().any(is_flag);
+    let rest: Vec<&str> = arguments.iter().copied().filter(|word| !is_flag(word)).collect();
+    let task = task(&rest)?;
+    let result = compare::compare(task.calls, task.program, task.seed, with_translate)?;
+    let form = Form { input: "script", show_input: plain, show_output: plain };
+    report(&task, &result, &form, ["calls", "lists"])
+}
+
+fn compare_record(arguments: &[&str]) -> io::Result<ExitCode> {
+    let task = task(arguments)?;
+    let result = compare::compare_record(task.calls, task.program, task.seed)?;
+    let form = Form { input: "script", show_input: plain, show_output: as_hex };
+    report(&task, &result, &form, ["records", "scripts"])
+}
+
+fn compare_replay(arguments: &[&str]) -> io::Result<ExitCode> {
+    let task = task(arguments)?;
+    let result = compare::compare_replay(task.calls, task.program, task.seed)?;
+    let form = Form { input: "journal", show_input: as_hex, show_output: plain };
+    report(&task, &result, &form, ["records", "journals"])
+}
+
+/// How the input and the outputs of a difference are shown.
+struct Form {
+    input: &'static str,
+    show_input: fn(&[u8]) -> Vec<u8>,
+    show_output: fn(&[u8]) -> Vec<u8>,
+}
+
+fn plain(bytes: &[u8]) -> Vec<u8> {
+    bytes.to_vec()
+}
+
+fn as_hex(journal: &[u8]) -> Vec<u8> {
+    hex::show(journal).into_bytes()
+}
+
+/// Prints the difference if there is one, and a line that counts.
+fn report(
+    task: &Task,
+    result: &Comparison,
+    form: &Form,
+    [calls, lists]: [&str; 2],
+) -> io::Result<ExitCode> {
     let mut output = io::stdout().lock();
     if let Some(difference) = &result.difference {
-        print_difference(&mut output, program, difference)?;
+        print_difference(&mut output, task.program, difference, form)?;
     }
     let differences = match result.difference {
         None => "0 differences",
@@ -133,26 +194,23 @@ fn compare(arguments: &[String]) -> io::Result<ExitCode> {
     };
     writeln!(
         output,
-        "{} calls in {} lists from seed {seed}: {differences}",
-        result.calls, result.lists
+        "{} {calls} in {} {lists} from seed {}: {differences}",
+        result.calls, result.lists, task.seed
     )?;
     Ok(ExitCode::from(u8::from(result.difference.is_some())))
-}
-
-fn seed_from_clock() -> u64 {
-    SystemTime::now().duration_since(UNIX_EPOCH).map_or(0, |since| since.as_nanos() as u64)
 }
 
 fn print_difference(
     output: &mut impl Write,
     program: &str,
     difference: &Difference,
+    form: &Form,
 ) -> io::Result<()> {
-    writeln!(output, "script:")?;
-    output.write_all(&difference.input)?;
+    writeln!(output, "{}:", form.input)?;
+    output.write_all(&(form.show_input)(&difference.input))?;
     writeln!(output, "\nreference:")?;
-    output.write_all(&difference.reference)?;
+    output.write_all(&(form.show_output)(&difference.reference))?;
     writeln!(output, "\n{program}:")?;
-    output.write_all(&difference.program)?;
+    output.write_all(&(form.show_output)(&difference.program))?;
     writeln!(output)
 }
