@@ -6,14 +6,15 @@ use std::time::{SystemTime, UNIX_EPOCH};
 
 use reference::compare::{self, Comparison, Difference};
 use reference::count::Counts;
-use reference::generate::Generator;
+use reference::generate::{Generator, Journals};
 use reference::{hex, journal, script};
 
 const USAGE: &str = "usage: reference run
        reference record
-       reference replay
+       reference replay [--count]
        reference unhex
        reference generate SEED LISTS LENGTH [--without-translate] [--count]
+       reference generate-journal SEED LENGTH
        reference compare N PROGRAM [--seed S] [--without-translate]
        reference compare-record N PROGRAM [--seed S]
        reference compare-replay N PROGRAM [--seed S]";
@@ -28,8 +29,10 @@ fn main() -> ExitCode {
         ["run"] => run(),
         ["record"] => record(),
         ["replay"] => replay(),
+        ["replay", "--count"] => count_journal(),
         ["unhex"] => unhex(),
         ["generate", ref rest @ ..] => generate(rest),
+        ["generate-journal", seed, length] => generate_journal(seed, length),
         ["compare", ref rest @ ..] => compare(rest),
         ["compare-record", ref rest @ ..] => compare_record(rest),
         ["compare-replay", ref rest @ ..] => compare_replay(rest),
@@ -61,6 +64,16 @@ fn record() -> io::Result<ExitCode> {
 fn replay() -> io::Result<ExitCode> {
     journal::replay(io::stdin().lock(), BufWriter::new(io::stdout().lock()))?;
     Ok(ExitCode::SUCCESS)
+}
+
+/// Counts the answers of the journal on standard input; the status is 1 if one of them does not come.
+fn count_journal() -> io::Result<ExitCode> {
+    let mut counts = Counts::new(true);
+    let mut journal = Vec::new();
+    io::stdin().lock().read_to_end(&mut journal)?;
+    counts.add_journal(&journal);
+    print!("{counts}");
+    Ok(ExitCode::from(u8::from(!counts.every_answer())))
 }
 
 /// Writes the bytes of a text of hexadecimal words.
@@ -105,6 +118,17 @@ fn generate(arguments: &[&str]) -> io::Result<ExitCode> {
     }
     output.flush()?;
     Ok(ExitCode::from(u8::from(count && !counts.complete())))
+}
+
+/// Writes a journal of the calls of the script on standard input, and of random ones after them.
+fn generate_journal(seed: &str, length: &str) -> io::Result<ExitCode> {
+    let seed = seed.parse().map_err(|_| usage())?;
+    let length = length.parse().map_err(|_| usage())?;
+    let mut script = Vec::new();
+    io::stdin().lock().read_to_end(&mut script)?;
+    let journal = Journals::new(seed).long_journal(&script, length);
+    io::stdout().lock().write_all(&journal)?;
+    Ok(ExitCode::SUCCESS)
 }
 
 /// What is to be compared.

@@ -4,6 +4,8 @@ use std::collections::BTreeSet;
 use std::fs;
 use std::path::{Path, PathBuf};
 
+use reference::count::Counts;
+use reference::generate::Journals;
 use reference::hex;
 use reference::journal::{output_of, parts, read};
 
@@ -40,4 +42,11 @@ fn they_have_every_call_and_every_stop() {
     }
     // Five reasons, and the good end.
     assert_eq!((calls.len(), reasons.len()), (20, 6));
+}
+
+#[test]
+fn a_long_journal_has_every_answer() {
+    let mut counts = Counts::new(true);
+    counts.add_journal(&Journals::new(1).long_journal(b"clone 1\nfork 2\n", 6_000));
+    assert!(counts.every_answer(), "{counts}");
 }

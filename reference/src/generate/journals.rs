@@ -61,15 +61,20 @@ impl Journals {
         journal::journal(&self.entries()).expect("a record can hold each of these calls")
     }
 
+    /// A journal of the calls of a script and `length` random ones after them, with every answer of
+    /// every call if it is long enough.
+    pub fn long_journal(&mut self, script: &[u8], length: u64) -> Vec<u8> {
+        let start = calls(script);
+        let list = self.generator.long_list(&start, length);
+        let mut entries: Vec<Entry> = start.into_iter().map(Entry::of).collect();
+        entries.extend(self.entries_of(&list));
+        journal::journal(&entries).expect("a record can hold each of these calls")
+    }
+
     /// A list of calls.
     pub fn entries(&mut self) -> Vec<Entry> {
         let list = self.list();
-        let mut entries = Vec::new();
-        for line in lines(&list) {
-            if let Item::Call(call) = script::parse(line) {
-                entries.push(self.with_other_buffer(Entry::of(call)));
-            }
-        }
+        let mut entries = self.entries_of(&list);
         if self.random.chance(5) {
             let place = self.random.index(entries.len() + 1);
             let call = self.long_call();
@@ -95,6 +100,10 @@ impl Journals {
             script.push(b'\n');
         }
         script
+    }
+
+    fn entries_of(&mut self, script: &[u8]) -> Vec<Entry> {
+        calls(script).into_iter().map(|call| self.with_other_buffer(Entry::of(call))).collect()
     }
 
     /// The script of a list of calls.
@@ -146,6 +155,15 @@ impl Journals {
             _ => 1 + self.random.index(most),
         }
     }
+}
+
+/// The calls of a script, without what else it has.
+fn calls(script: &[u8]) -> Vec<Call> {
+    let call = |line| match script::parse(line) {
+        Item::Call(call) => Some(call),
+        _ => None,
+    };
+    lines(script).filter_map(call).collect()
 }
 
 /// The lines of a script that ends in a newline.
