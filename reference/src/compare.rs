@@ -1,5 +1,5 @@
-//! Gives random inputs to this implementation and to another program, and cuts down an input on which
-//! they differ.
+//! Gives random inputs to this implementation and to another program, and cuts down an input on
+//! which they differ.
 
 mod lines;
 mod program;

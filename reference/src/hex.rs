@@ -32,7 +32,7 @@ fn read_word(word: &str) -> Option<Vec<u8>> {
     Some(bytes.repeat(times))
 }
 
-/// A journal as text, with a line for the version, for each record and for the bytes from the stop on.
+/// A journal as text: a line for the version, for each record, and for what is from the stop on.
 pub fn show(journal: &[u8]) -> String {
     journal::parts(journal).into_iter().map(|part| line(part) + "\n").collect()
 }

@@ -1,4 +1,4 @@
-//! The journal of calls: a version byte and one record for each call. docs/journal.md has its bytes.
+//! The journal of calls: a version byte and one record for each call, as docs/journal.md has it.
 
 mod read;
 mod record;

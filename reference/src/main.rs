@@ -66,7 +66,7 @@ fn replay() -> io::Result<ExitCode> {
     Ok(ExitCode::SUCCESS)
 }
 
-/// Counts the answers of the journal on standard input; the status is 1 if one of them does not come.
+/// Counts the answers of the journal on standard input; the status is 1 if one does not come.
 fn count_journal() -> io::Result<ExitCode> {
     let mut counts = Counts::new(true);
     let mut journal = Vec::new();

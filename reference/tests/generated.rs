@@ -1,4 +1,4 @@
-//! Generated scripts and journals meet every rule, and a comparison finds and cuts down a difference.
+//! Generated scripts and journals meet every rule; a comparison finds and cuts down a difference.
 
 use std::collections::BTreeSet;
 

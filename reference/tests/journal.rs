@@ -135,7 +135,7 @@ fn the_reading_stops_at_a_record() {
     for text in ["", "00", "02", "ff", "00 0009 10 0000000000000001", "02 0000"] {
         stops(text, 0, Reason::Version, 0);
     }
-    // After a version and after a record: too few bytes, length 0, an unknown byte, too short, too long.
+    // After a version and after a record.
     for (start, offset, calls) in [("01 ", 1, 0), (FORK, 12, 1)] {
         for (rest, reason) in [
             ("00", Reason::CutOff),

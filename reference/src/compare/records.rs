@@ -3,7 +3,7 @@
 use super::shrink::without_chunks;
 use crate::journal::{self, VERSION};
 
-/// Where the fixed arguments of the calls that have a tail end, and the size of what the tail holds.
+/// Where the tail of a call starts if it has one, and the size of each item of it.
 fn tail_of(call_byte: u8) -> Option<(usize, usize)> {
     match call_byte {
         0x20..=0x22 => Some((17, 1)),

@@ -12,8 +12,9 @@ pub const MAX_TEXT: usize = 65_518;
 /// "and a list at most 16,381 IDs"
 pub const MAX_IDS: usize = 16_381;
 
-/// Writes the record of a call into a lent buffer from `place` on, and answers where it ends. A call
-/// that no record can hold is refused with 22, a buffer without room with 34; nothing is written then.
+/// Writes the record of a call into a lent buffer from `place` on, and answers where it ends. A
+/// call that no record can hold is refused with 22, then a buffer without room with 34; nothing is
+/// written then.
 pub fn write(entry: &Entry, buffer: &mut [u8], place: usize) -> Result<usize, Errno> {
     let record = record_of(entry)?;
     let room = buffer.get_mut(place..).and_then(|rest| rest.get_mut(..record.len()));
@@ -30,8 +31,8 @@ pub fn journal(entries: &[Entry]) -> Result<Vec<u8>, Errno> {
     Ok(bytes)
 }
 
-/// The whole record of a call: "22 if the length would pass 65,535, or if it is a read whose buffer's
-/// length needs over four bytes".
+/// The whole record of a call: "22 if the length would pass 65,535, or if it is a read whose
+/// buffer's length needs over four bytes".
 pub(super) fn record_of(entry: &Entry) -> Result<Vec<u8>, Errno> {
     let lent = u32::try_from(entry.lent).map_err(|_| Errno::Einval)?;
     let mut body = vec![call_byte(&entry.call)];
