@@ -5,7 +5,7 @@ use crate::call::Call;
 use crate::id_map::Kind;
 use crate::journal::{self, Entry, MAX_IDS, MAX_TEXT};
 use crate::random::Random;
-use crate::script::{self, Item};
+use crate::script::{self, Item, MAX_LINE};
 
 const LENGTHS: [u64; 10] = [1, 10, 60, 100, 200, 200, 300, 400, 400, 1_000];
 /// The length of a list now and then.
@@ -86,10 +86,15 @@ impl Journals {
     /// A script that is recorded to its end, or up to a malformed line or a `fresh`.
     pub fn script(&mut self) -> Vec<u8> {
         let list = self.list();
+        let long = self.long_line();
         // The first line is `fresh`.
         let mut lines: Vec<&[u8]> = lines(&list).skip(1).collect();
         if self.random.chance(70) {
             lines.retain(|line| !matches!(script::parse(line), Item::Malformed(_)));
+        }
+        if self.random.chance(5) {
+            let place = self.random.index(lines.len() + 1);
+            lines.insert(place, &long);
         }
         if self.random.chance(10) {
             let place = self.random.index(lines.len() + 1);
@@ -138,6 +143,13 @@ impl Journals {
             2 => Call::WriteSetgroups { caller, process, text: self.long_text() },
             _ => Call::Setgroups { caller, groups: vec![5; self.long_length(MAX_IDS)] },
         }
+    }
+
+    /// The line of a write with a text that is as long as a line can hold, or shorter.
+    fn long_line(&mut self) -> Vec<u8> {
+        let start = self.random.pick(&[&b"write-uid-map 1 2 \""[..], b"write-setgroups 1 1 \""]);
+        let text = vec![b'0'; self.long_length(MAX_LINE - start.len() - 1)];
+        [start, &text, b"\""].concat()
     }
 
     fn long_text(&mut self) -> Vec<u8> {
