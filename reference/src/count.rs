@@ -1,13 +1,14 @@
 //! How often each answer, refusal rule and kind of line comes in a script, beside those that can come.
 
-use std::collections::BTreeMap;
+use std::collections::{BTreeMap, BTreeSet};
 use std::fmt;
 
 use crate::answer::{Answer, Rule, Rule::*};
 use crate::call::Call;
 use crate::id_map::Kind;
+use crate::journal;
 use crate::process::Process;
-use crate::script::{self, Item, Malformed};
+use crate::script::{self, Item};
 use crate::show;
 use crate::tables::Tables;
 
@@ -184,6 +185,8 @@ const LINES: &[Rows] = &[
 pub struct Counts {
     rows: BTreeMap<(usize, &'static str, Outcome), u64>,
     places: BTreeMap<&'static str, usize>,
+    /// How many of the places are those of calls.
+    calls: usize,
     expected: usize,
 }
 
@@ -203,7 +206,8 @@ impl Counts {
                 rows.extend(outcomes.iter().map(|o| ((place, *word, *o), 0)));
             }
         }
-        Counts { expected: rows.len(), rows, places }
+        let lines: usize = LINES.iter().map(|group| group.words.len()).sum();
+        Counts { expected: rows.len(), rows, calls: places.len() - lines, places }
     }
 
     /// Counts the lines of a script, which starts from the initial tables.
@@ -218,17 +222,25 @@ impl Counts {
                     tables = Tables::initial();
                     self.one_more("line", Outcome::Is("fresh"));
                 }
-                Item::Malformed(kind) => {
-                    self.one_more("malformed", Outcome::Is(malformed_name(kind)))
-                }
-                Item::Call(call) => {
-                    let before = tables.processes.get(&call.caller()).cloned();
-                    let answer = tables.answer(&call);
-                    let outcome = outcome(&call, &answer, before.as_ref(), &tables);
-                    self.one_more(show::word(&call), outcome);
-                }
+                Item::Malformed(kind) => self.one_more("malformed", Outcome::Is(kind.name())),
+                Item::Call(call) => self.add_call(&mut tables, &call),
             }
         }
+    }
+
+    /// Counts the calls of a journal.
+    pub fn add_journal(&mut self, journal: &[u8]) {
+        let mut tables = Tables::initial();
+        for entry in journal::read(journal).0 {
+            self.add_call(&mut tables, &entry.to_call());
+        }
+    }
+
+    fn add_call(&mut self, tables: &mut Tables, call: &Call) {
+        let before = tables.processes.get(&call.caller()).cloned();
+        let answer = tables.answer(call);
+        let outcome = outcome(call, &answer, before.as_ref(), tables);
+        self.one_more(show::word(call), outcome);
     }
 
     fn one_more(&mut self, word: &'static str, outcome: Outcome) {
@@ -239,6 +251,15 @@ impl Counts {
     /// Whether all that can come has come, and nothing else.
     pub fn complete(&self) -> bool {
         self.rows.len() == self.expected && self.rows.values().all(|count| *count > 0)
+    }
+
+    /// Whether every call has given every answer and every number of a refusal that it can, by
+    /// whichever rule.
+    pub fn every_answer(&self) -> bool {
+        let calls = self.rows.iter().filter(|((place, ..), _)| *place < self.calls);
+        let all: BTreeSet<_> = calls.clone().map(|(row, _)| shown(row)).collect();
+        let come = calls.filter(|(_, count)| **count > 0);
+        all == come.map(|(row, _)| shown(row)).collect()
     }
 }
 
@@ -254,6 +275,14 @@ impl fmt::Display for Counts {
             }
         }
         Ok(())
+    }
+}
+
+/// What a row is of a call's answer as it is printed: the number of a refusal in place of its rule.
+fn shown((_, word, outcome): &(usize, &'static str, Outcome)) -> (&'static str, &'static str, u32) {
+    match outcome {
+        Outcome::Is(name) => (word, name, 0),
+        Outcome::Refused(rule) => (word, "refused", rule.errno().number()),
     }
 }
 
@@ -299,23 +328,5 @@ fn done(call: &Call, before: Option<&Process>, tables: &Tables) -> &'static str 
             }
         }
         _ => "done",
-    }
-}
-
-fn malformed_name(kind: Malformed) -> &'static str {
-    match kind {
-        Malformed::LineTooLong => "line too long",
-        Malformed::UnknownWord => "unknown word",
-        Malformed::TooFewArguments => "too few arguments",
-        Malformed::TooManyArguments => "too many arguments",
-        Malformed::FreshWithArguments => "fresh with arguments",
-        Malformed::NotANumber => "not a number",
-        Malformed::NumberTooLarge => "number too large",
-        Malformed::NotAText => "not a text",
-        Malformed::BadEscape => "bad escape",
-        Malformed::MissingQuote => "missing quote",
-        Malformed::JunkAfterQuote => "junk after quote",
-        Malformed::BufferTooLong => "buffer too long",
-        Malformed::TooManyIds => "too many IDs",
     }
 }

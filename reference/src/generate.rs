@@ -2,6 +2,8 @@
 
 mod bite;
 mod choose;
+mod damage;
+mod journals;
 mod map_text;
 mod odd;
 mod plan;
@@ -11,6 +13,8 @@ use crate::call::Call;
 use crate::random::Random;
 use crate::script::MAX_LINE;
 use crate::tables::Tables;
+
+pub use journals::Journals;
 
 /// Each stretch of so many calls has one line that is too long and one that just is not.
 const LONG_LINE_EVERY: u64 = 20_000;
@@ -69,6 +73,28 @@ impl Generator {
             5 => self.go_deep_with_noise(),
             _ => self.settle(),
         }
+        self.fill_list();
+        std::mem::take(&mut self.script)
+    }
+
+    /// A list of `length` calls that goes on from the tables which the calls of `start` leave, and
+    /// reaches the last level and the end of each table.
+    pub fn long_list(&mut self, start: &[Call], length: u64) -> Vec<u8> {
+        self.tables = Tables::initial();
+        for call in start {
+            self.tables.answer(call);
+        }
+        self.script = Vec::new();
+        self.left = length;
+        self.bad = 4;
+        self.go_deep();
+        // No clone is refused for want of a process once there is no namespace left.
+        self.fill_processes();
+        self.fill_list();
+        std::mem::take(&mut self.script)
+    }
+
+    fn fill_list(&mut self) {
         while self.left > 0 {
             if self.random.chance(8) {
                 self.plan();
@@ -77,7 +103,6 @@ impl Generator {
                 self.emit(call);
             }
         }
-        std::mem::take(&mut self.script)
     }
 
     /// Writes the line of a call and runs it. None when the list is full.

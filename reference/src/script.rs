@@ -34,6 +34,26 @@ pub enum Malformed {
     TooManyIds,
 }
 
+impl Malformed {
+    pub fn name(self) -> &'static str {
+        match self {
+            Malformed::LineTooLong => "line too long",
+            Malformed::UnknownWord => "unknown word",
+            Malformed::TooFewArguments => "too few arguments",
+            Malformed::TooManyArguments => "too many arguments",
+            Malformed::FreshWithArguments => "fresh with arguments",
+            Malformed::NotANumber => "not a number",
+            Malformed::NumberTooLarge => "number too large",
+            Malformed::NotAText => "not a text",
+            Malformed::BadEscape => "bad escape",
+            Malformed::MissingQuote => "missing quote",
+            Malformed::JunkAfterQuote => "junk after quote",
+            Malformed::BufferTooLong => "buffer too long",
+            Malformed::TooManyIds => "too many IDs",
+        }
+    }
+}
+
 /// What one line of a script is.
 #[derive(Clone, PartialEq, Eq, Debug)]
 pub enum Item {
@@ -74,7 +94,7 @@ pub fn output_of(script: &[u8]) -> Vec<u8> {
 
 /// Reads the next line without its newline, false at the input's end; of a line that is too long
 /// only the first bytes are kept, one more than are allowed.
-fn next_line(input: &mut impl BufRead, line: &mut Vec<u8>) -> io::Result<bool> {
+pub(crate) fn next_line(input: &mut impl BufRead, line: &mut Vec<u8>) -> io::Result<bool> {
     line.clear();
     let limit = MAX_LINE as u64 + 1;
     input.by_ref().take(limit).read_until(b'\n', line)?;
