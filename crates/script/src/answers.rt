@@ -16,7 +16,7 @@ pub fn malformed(out: &mut [u8], at: usize) -> usize {
     put_bytes(out, at, b"malformed\n")
 }
 
-fn put_errno(out: &mut [u8], at: usize, e: Errno) -> usize {
+pub fn put_errno(out: &mut [u8], at: usize, e: Errno) -> usize {
     match e {
         Errno::EPERM => put_bytes(out, at, b"refused 1 EPERM"),
         Errno::ESRCH => put_bytes(out, at, b"refused 3 ESRCH"),

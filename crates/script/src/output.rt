@@ -2,10 +2,15 @@
 // use, and answers how much is then.
 use libc::STDOUT_FILENO;
 
-pub fn flush(out: &[u8], at: usize) {
-    if at <= out.len() {
-        io::write_all(STDOUT_FILENO, &out[..at]);
+// Writes the first `n` bytes of a buffer to a descriptor.
+pub fn write_first(descriptor: i32, out: &[u8], n: usize) {
+    if n <= out.len() {
+        io::write_all(descriptor, &out[..n]);
     }
+}
+
+pub fn flush(out: &[u8], at: usize) {
+    write_first(STDOUT_FILENO, out, at);
 }
 
 pub fn put_byte(out: &mut [u8], at: usize, b: u8) -> usize {
