@@ -18,6 +18,9 @@ const FULL: usize = 65536;
 // The room for output: the longest record fits behind those that are gathered.
 const OUT_ROOM: usize = FULL + MAX_RECORD;
 
+// The turns of a loop over the input are counted, since nothing says that it ends. As many never come.
+const MOST_TURNS: u64 = 18446744073709551615;
+
 // How many bytes of a line are gathered, how much of the output buffer is in use, the line's number, and whether there
 // is more to do.
 struct Progress {
@@ -149,8 +152,7 @@ fn read_once(
     take(&piece[..n], line, p, scratch, ids, out)
 }
 
-// Reads the input to its end or to a stop. Nothing says that it has an end, so the turns are counted; 2 to the 64 of
-// them never come.
+// Reads the input to its end or to a stop.
 fn record(line: &mut [u8], scratch: &mut [u8], ids: &mut [u32; MAX_LIST], out: &mut [u8]) {
     let mut p = Progress {
         have: 0,
@@ -158,7 +160,7 @@ fn record(line: &mut [u8], scratch: &mut [u8], ids: &mut [u32; MAX_LIST], out: &
         number: 1,
         going: true,
     };
-    let mut turns: u64 = 18446744073709551615;
+    let mut turns = MOST_TURNS;
     while turns > 0 {
         p = read_once(line, p, scratch, ids, out);
         if !p.going {

@@ -15,6 +15,9 @@ mod window;
 // The room for output.
 const OUT_ROOM: usize = 65536;
 
+// The turns of a loop over the input are counted, since nothing says that it ends. As many never come.
+const MOST_TURNS: u64 = 18446744073709551615;
+
 // Whether more input can bring more calls.
 fn wants_more(read: Read) -> bool {
     match read {
@@ -51,12 +54,11 @@ fn read_once(
             return Turn::On(window::at_record(q, left.at));
         }
     }
-    stops::print_end(read, q.gone, out);
+    stops::print_end(read, q.dropped, out);
     Turn::Done
 }
 
-// Reads the input to its end or to a stop. Nothing says that it has an end, so the turns are counted; 2 to the 64 of
-// them never come.
+// Reads the input to its end or to a stop.
 fn serve(
     t: &mut Tables,
     window: &mut [u8],
@@ -65,7 +67,7 @@ fn serve(
     out: &mut [u8],
 ) {
     let mut p = window::START;
-    let mut turns: u64 = 18446744073709551615;
+    let mut turns = MOST_TURNS;
     while turns > 0 {
         let Turn::On(q) = read_once(t, window, p, list, buffer, out) else {
             return;

@@ -1,4 +1,5 @@
 // The calls of the records that a part of a journal has.
+use crate::MOST_TURNS;
 use journal::MAX_IDS;
 use journal::read::Read;
 use replay_step::MAX_READ;
@@ -24,8 +25,7 @@ pub struct Left {
     pub read: Read,
 }
 
-// Makes the calls of the whole records from a place on, and prints their answers. A record has bytes, so that there are
-// fewer of them than turns.
+// Makes the calls of the whole records from a place on, and prints their answers.
 pub fn replay_whole(
     t: &mut Tables,
     journal: &[u8],
@@ -36,7 +36,7 @@ pub fn replay_whole(
 ) -> Left {
     let mut at = from;
     let mut used: usize = 0;
-    let mut turns: u64 = 18446744073709551615;
+    let mut turns = MOST_TURNS;
     while turns > 0 {
         let made = make(t, journal, at, list, buffer);
         let read = made.read;

@@ -22,10 +22,10 @@ fn print_stop(offset: u64, why: Stop, out: &mut [u8]) {
     output::flush(out, end);
 }
 
-// Prints the stop that a journal ends with, where it does. Its offset counts the bytes that are gone from the window.
-pub fn print_end(read: Read, gone: u64, out: &mut [u8]) {
+// Prints the stop that a journal ends with, if any. Its offset counts the bytes that are dropped from the window.
+pub fn print_end(read: Read, dropped: u64, out: &mut [u8]) {
     let Read::Stopped(at, why) = read else {
         return;
     };
-    print_stop(std::num::wrapping_add_u64(gone, at as u64), why, out);
+    print_stop(std::num::wrapping_add_u64(dropped, at as u64), why, out);
 }

@@ -1,23 +1,24 @@
 // A part of the journal in a lent buffer, the window: the version byte, and behind it what is read and not replayed.
 ghost use Prim.Native.Nat.{_≤_};
 ghost use lib.ListN.{length};
+use journal::MAX_RECORD;
 
-// The room for it. The version byte and the longest record fit.
-pub const WINDOW_ROOM: usize = 131072;
+// The room for it. The version byte and two of the longest records fit.
+pub const WINDOW_ROOM: usize = 1 + 2 * MAX_RECORD;
 
-// Where the next record stands in the window, how many bytes the window has, how many bytes of the journal are gone from
-// it, and whether the input has ended.
+// Where the next record stands in the window, how many bytes the window has, how many bytes of the journal are dropped
+// from it, and whether the input has ended.
 pub struct Place {
     pub at: usize,
     pub filled: usize,
-    pub gone: u64,
+    pub dropped: u64,
     pub ended: bool,
 }
 
 pub const START: Place = Place {
     at: 0,
     filled: 0,
-    gone: 0,
+    dropped: 0,
     ended: false,
 };
 
@@ -35,7 +36,7 @@ pub fn at_record(p: Place, at: usize) -> Place {
     Place {
         at: at,
         filled: p.filled,
-        gone: p.gone,
+        dropped: p.dropped,
         ended: p.ended,
     }
 }
@@ -54,8 +55,8 @@ fn move_down(window: &mut [u8], from: usize, end: usize) -> usize
     to
 }
 
-// Lets go of what is replayed, but for the version byte.
-fn let_go(window: &mut [u8], p: Place) -> Place {
+// Drops what is replayed, but for the version byte.
+fn drop_replayed(window: &mut [u8], p: Place) -> Place {
     let at = p.at;
     let filled = p.filled;
     if at <= 1 {
@@ -68,7 +69,7 @@ fn let_go(window: &mut [u8], p: Place) -> Place {
     Place {
         at: 1,
         filled: end,
-        gone: std::num::wrapping_add_u64(p.gone, (at - 1) as u64),
+        dropped: std::num::wrapping_add_u64(p.dropped, (at - 1) as u64),
         ended: false,
     }
 }
@@ -84,13 +85,13 @@ fn read_behind(window: &mut [u8], p: Place) -> Place {
     Place {
         at: p.at,
         filled: from + n,
-        gone: p.gone,
+        dropped: p.dropped,
         ended: n == 0,
     }
 }
 
 // Reads on where no whole record is left in the window.
 pub fn read_on(window: &mut [u8], p: Place) -> Place {
-    let q = let_go(window, p);
+    let q = drop_replayed(window, p);
     read_behind(window, q)
 }
