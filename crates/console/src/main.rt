@@ -1,49 +1,22 @@
 // Reads calls from standard input, a line for each, and writes an answer line for each: docs/console.md has the form.
+use script::lines::MAX_LINE;
+use script::lines::MAX_LIST;
+use script::lines::lengthen;
+use script::output;
 use tables::TABLES_WIDTH;
 use tables::Tables;
 
-mod answers;
-mod commands;
 mod lines;
-mod output;
-mod texts;
-mod tokens;
 
-// The room for a line, for a text on it and for output.
-const ROOM: usize = 65536;
+use crate::lines::answer_line;
 
-// How many bytes a line that is too long counts as.
-const TOO_LONG: usize = ROOM + 1;
+// The room for output.
+const OUT_ROOM: usize = 65536;
 
-// How many bytes of a line stand in its buffer, or TOO_LONG; and how much of the output buffer is in use.
+// How many bytes of a line are gathered, and how much of the output buffer is in use.
 struct Progress {
     have: usize,
     at: usize,
-}
-
-// A byte more on a line; one that does not fit makes the line too long.
-fn lengthen(line: &mut [u8], n: usize, b: u8) -> usize {
-    if n < line.len() {
-        line[n] = b;
-        n + 1
-    } else {
-        TOO_LONG
-    }
-}
-
-fn end_line(
-    t: &mut Tables,
-    line: &[u8],
-    n: usize,
-    scratch: &mut [u8],
-    out: &mut [u8],
-    at: usize,
-) -> usize {
-    if n <= line.len() {
-        lines::answer_line(t, &line[..n], scratch, out, at)
-    } else {
-        answers::malformed(out, at)
-    }
 }
 
 // Takes a byte of the input: a newline ends the line.
@@ -53,6 +26,7 @@ fn take_byte(
     line: &mut [u8],
     p: Progress,
     scratch: &mut [u8],
+    ids: &mut [u32; MAX_LIST],
     out: &mut [u8],
 ) -> Progress {
     let have = p.have;
@@ -60,7 +34,7 @@ fn take_byte(
     if b == b'\n' {
         return Progress {
             have: 0,
-            at: end_line(t, line, have, scratch, out, at),
+            at: answer_line(t, line, have, scratch, ids, out, at),
         };
     }
     Progress {
@@ -77,13 +51,14 @@ fn take(
     line: &mut [u8],
     have: usize,
     scratch: &mut [u8],
+    ids: &mut [u32; MAX_LIST],
     out: &mut [u8],
 ) -> usize {
     let mut p = Progress { have: have, at: 0 };
     let mut i: usize = 0;
     while i < piece.len() {
         let b = piece[i];
-        p = take_byte(t, b, line, p, scratch, out);
+        p = take_byte(t, b, line, p, scratch, ids, out);
         i += 1;
     }
     output::flush(out, p.at);
@@ -102,6 +77,7 @@ fn read_once(
     line: &mut [u8],
     have: usize,
     scratch: &mut [u8],
+    ids: &mut [u32; MAX_LIST],
     out: &mut [u8],
 ) -> Brought {
     let mut piece = io::large_buffer();
@@ -110,24 +86,37 @@ fn read_once(
         return Brought::End;
     }
     let n = io::count(got, &piece);
-    Brought::Have(take(t, &piece[..n], line, have, scratch, out))
+    Brought::Have(take(t, &piece[..n], line, have, scratch, ids, out))
 }
 
 // The last line, where it lacks its newline.
-fn finish(t: &mut Tables, line: &[u8], have: usize, scratch: &mut [u8], out: &mut [u8]) {
+fn finish(
+    t: &mut Tables,
+    line: &[u8],
+    have: usize,
+    scratch: &mut [u8],
+    ids: &mut [u32; MAX_LIST],
+    out: &mut [u8],
+) {
     if have > 0 {
-        let at = end_line(t, line, have, scratch, out, 0);
+        let at = answer_line(t, line, have, scratch, ids, out, 0);
         output::flush(out, at);
     }
 }
 
 // Reads the input to its end. Nothing says that it has one, so the turns are counted; 2 to the 64 of them never come.
-fn serve(t: &mut Tables, line: &mut [u8], scratch: &mut [u8], out: &mut [u8]) {
+fn serve(
+    t: &mut Tables,
+    line: &mut [u8],
+    scratch: &mut [u8],
+    ids: &mut [u32; MAX_LIST],
+    out: &mut [u8],
+) {
     let mut have: usize = 0;
     let mut turns: u64 = 18446744073709551615;
     while turns > 0 {
-        let Brought::Have(n) = read_once(t, line, have, scratch, out) else {
-            finish(t, line, have, scratch, out);
+        let Brought::Have(n) = read_once(t, line, have, scratch, ids, out) else {
+            finish(t, line, have, scratch, ids, out);
             return;
         };
         have = n;
@@ -138,8 +127,9 @@ fn serve(t: &mut Tables, line: &mut [u8], scratch: &mut [u8], out: &mut [u8]) {
 fn main() {
     let mut t = [0u64; TABLES_WIDTH];
     tables::initial::initial(&mut t);
-    let mut line = [0u8; ROOM];
-    let mut scratch = [0u8; ROOM];
-    let mut out = [0u8; ROOM];
-    serve(&mut t, &mut line, &mut scratch, &mut out);
+    let mut line = [0u8; MAX_LINE];
+    let mut scratch = [0u8; MAX_LINE];
+    let mut ids = [0u32; MAX_LIST];
+    let mut out = [0u8; OUT_ROOM];
+    serve(&mut t, &mut line, &mut scratch, &mut ids, &mut out);
 }

@@ -6,10 +6,10 @@ use Rattle.console.proofs.serve.Statement.{statement}
 use Rattle.console.proofs.serve.Tie as tie
 
 abbrev Inv-loop : tie.InvT-loop
-Inv-loop t₀ line₀ scratch₀ out₀ have₀ turns₀ t line scratch out have turns = (length line ≡ length line₀) × (length scratch ≡ length scratch₀) × (length out ≡ length out₀)
+Inv-loop t₀ line₀ scratch₀ ids₀ out₀ have₀ turns₀ t line scratch ids out have turns = (length line ≡ length line₀) × (length scratch ≡ length scratch₀) × (length out ≡ length out₀)
 
 abbrev μ-loop : tie.MeasureT-loop
-μ-loop t₀ line₀ scratch₀ out₀ have₀ turns₀ t line scratch out have turns = turns
+μ-loop t₀ line₀ scratch₀ ids₀ out₀ have₀ turns₀ t line scratch ids out have turns = turns
 
 pub serve-spec : {M : Type 1} → statement M
 serve-spec =

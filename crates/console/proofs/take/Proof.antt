@@ -7,10 +7,10 @@ use Rattle.console.proofs.take.Statement.{statement}
 use Rattle.console.proofs.take.Tie as tie
 
 abbrev Inv-loop : tie.InvT-loop
-Inv-loop t₀ piece line₀ have scratch₀ out₀ p₀ i₀ t line scratch out p i = (length line ≡ length line₀) × (length scratch ≡ length scratch₀) × (length out ≡ length out₀)
+Inv-loop t₀ piece line₀ have scratch₀ ids₀ out₀ p₀ i₀ t line scratch ids out p i = (length line ≡ length line₀) × (length scratch ≡ length scratch₀) × (length out ≡ length out₀)
 
 abbrev μ-loop : tie.MeasureT-loop
-μ-loop t₀ piece line₀ have scratch₀ out₀ p₀ i₀ t line scratch out p i = length piece - i
+μ-loop t₀ piece line₀ have scratch₀ ids₀ out₀ p₀ i₀ t line scratch ids out p i = length piece - i
 
 pub take-spec : {M : Type 1} → statement M
 take-spec =

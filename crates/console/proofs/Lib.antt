@@ -1,2 +1,0 @@
--- The shared laws of `console`.
-pub mod Slices

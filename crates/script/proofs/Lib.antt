@@ -1,0 +1,2 @@
+-- The shared laws of `script`.
+pub mod Slices
