@@ -107,9 +107,11 @@ module _ (b b′ rest : List ℕ) (m : ℕ) (one : length b ≡ min m maxRead) (
   text-alike : (text : List ℕ) → length text ≤ maxRead → Alike (readText text b) (readText text b′) rest
   unfolding Alike
   text-alike text short =
-      let same = reply-same text b b′ m short one other in
-      (same, λ n e.
-      text-there text b rest n e ∙ sym (ap (take n) (sym (append-nil (readText text b′ .buffer))) ∙ text-there text b′ [] n (sym same ∙ e)))
+      let same = reply-same text b b′ m short one other in (
+        same,
+        λ n e.
+            text-there text b rest n e ∙ sym (ap (take n) (sym (append-nil (readText text b′ .buffer))) ∙ text-there text b′ [] n (sym same ∙ e)),
+      )
 
   named-alike : (x : Found) (text : ℕ → List ℕ) → ((p : ℕ) → length (text p) ≤ maxRead)
       → Alike (onFound x (record { reply = refused 3; buffer = b }) (λ p. readText (text p) b)) (onFound x (record { reply = refused 3; buffer = b′ }) (λ p. readText (text p) b′)) rest
