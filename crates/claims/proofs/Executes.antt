@@ -6,14 +6,16 @@ use Rattle.tables.specs.Tables.{State, tablesOf, initialTables}
 use Rattle.tables.specs.Reply.{Reply}
 use Rattle.hierarchy.specs.Walks.{Translation}
 use Rattle.hierarchy.specs.Lifted.{byLiftedMaps}
-use Rattle.calls.specs.Calls.{Request, Step}
+use Rattle.calls.specs.Calls.{Request, Step, callReply}
+use Rattle.journal.specs.Reading.{requestAt}
 use Rattle.claims.specs.Translation.{byLevels}
 use Rattle.claims.specs.History.{Entry, entryOf, stepOf, runFrom, historyFrom, run, history, Fits, AllFit}
-use Rattle.claims.specs.Execution.{Execution, started, answered, exported, requestsOf, Executed}
+use Rattle.claims.specs.Execution.{Execution, started, answered, exported, replayed, requestsOf, Executed}
 use Rattle.claims.proofs.Theorem.{theorem}
 use Rattle.claims.proofs.Bounds.{bounds}
 use Rattle.claims.proofs.AsDocument.{as-document}
 use Rattle.claims.proofs.Exported.{exported-step}
+use Rattle.claims.proofs.RecordCalls.{read-fits, reply-made, tables-made}
 
 -- ---- one call more at the end of a list
 module _ (by : State → Translation) (r : Request) where
@@ -61,6 +63,13 @@ chain b h (answered {a = a} {after = after} {h = g} {r = r} x f p) = link a b af
 chain b h (exported {a = a} {after = after} {h = g} {r = r} x f code p) =
     let n = exported-step code a b (r .buffer) after (r .call) (r .text) (r .list) p in
     link a b after g r _ (chain a g x) f (λ i. record { reply = stepOf byLiftedMaps (tablesOf a) r .reply; tables = n .tables i; buffer = n .buffer i })
+chain b h (replayed {a = a} {after = after} {h = g} {r = r} {response = response} x l lent at found full p) =
+    let c = chain a g x in
+    let rs = requestsOf g in
+    let e = reply-made l a b after lent at rs r response (c .tables) (c .fit) found full p in
+    let t = tables-made l a b after lent at rs r response (c .tables) (c .fit) found full p in
+    let after′ = stepOf byLiftedMaps (tablesOf a) (requestAt l r) .buffer in
+    link a b after′ g (requestAt l r) (callReply response) c (read-fits l at r found) (λ i. record { reply = e i; tables = t i; buffer = after′ })
 
 pub executes : (a : List ℕ) (h : List Entry) → Execution a h → Executed a h
 executes a h x =

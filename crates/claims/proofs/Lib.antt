@@ -21,6 +21,7 @@ pub mod AsDocument
 pub mod Unread
 pub mod Bounds
 pub mod Exported
+pub mod RecordCalls
 pub mod Executes
 pub mod Replayed
 pub mod Refusals

@@ -1,5 +1,5 @@
--- What a host has and sees that keeps its tables by this code alone, call after call, through the entry point or
--- through exported functions: document 01's run of these calls. `executes` of proofs/Executes.antt proves it. Assumes
+-- What a host has and sees that keeps its tables by this code alone, call after call, through the entry point, through
+-- exported functions or by replaying journals: document 01's run of these calls. `executes` of proofs/Executes.antt proves it. Assumes
 -- nothing.
 use Prim.Native.Nat.{ℕ, _-_}
 use mathlib.Core.Path.{_≡_}
@@ -18,6 +18,10 @@ use Rattle.calls.specs.declared.Response.{Response}
 use Rattle.calls.specs.declared.Call.{Call}
 use Rattle.calls.specs.declared.Call.the-variants.{Fork, Clone, Unshare, Setns, WriteMap, WriteSetgroups, ReadMap, ReadSetgroups, SetIds, SetGroups, Capable, Drop, OwnIdsOf, Translate}
 use Rattle.calls.specs.Calls.{Request, Step, callReply, listedIn, CallPromise}
+use Rattle.journal.specs.declared.read.Record.{Record}
+use Rattle.journal.specs.declared.read.Read.the-variants.{Found}
+use Rattle.journal.specs.Reading.{readAt, requestAt}
+use Rattle.replay_step.specs.Replay.{maxRead, replayOf}
 use Rattle.exports.specs.Codes.{codeOf, Coded, CodedRead, ownWidth, CodedIds}
 use Rattle.claims.specs.History.{Entry, stepOf, run, history, Fits}
 use Rattle.claims.specs.Holds.{Holds}
@@ -86,6 +90,15 @@ pub data Execution : List ℕ → List Entry → Type 0 where
   exported : {a b after : List ℕ} {h : List Entry} {r : Request} → Execution a h → Fits r → (code : ℕ)
       → ExportPromise code a b (r .buffer) after (r .call) (r .text) (r .list)
       → Execution b (record { request = r; reply = stepOf byLiftedMaps (tablesOf a) r .reply; buffer = after } ∷ h)
+  -- the call of a record of a journal l, through `replay_step::step`, with what it promises of the buffer lent to it. The
+  -- entry has the buffer that the record says, of which the bytes read are the lent one's (`SameAnswer`)
+  replayed : {a b after : List ℕ} {h : List Entry} {r : Record} {response : Response} → Execution a h → (l lent : List ℕ) (at : ℕ)
+      → readAt l at ≡ Found r → length lent ≡ maxRead → CallPromise response a b after (replayOf (tablesOf a) l (readAt l at) lent)
+      → Execution b (record {
+        request = requestAt l r;
+        reply = callReply response;
+        buffer = stepOf byLiftedMaps (tablesOf a) (requestAt l r) .buffer;
+      } ∷ h)
 
 -- the calls of an execution, oldest first
 unfoldable pub requestsOf : List Entry → List Request

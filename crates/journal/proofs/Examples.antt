@@ -4,12 +4,12 @@ use Prim.Native.Nat.{ℕ}
 use mathlib.Core.Path.{_≡_, refl}
 use mathlib.Core.List.{List, [], _∷_}
 use lib.ListN.{replicate}
-use Rattle.records.specs.declared.Kind.the-variants.{User, Group}
-use Rattle.credentials.specs.declared.translate.Way.the-variants.{Out, Back}
-use Rattle.calls.specs.declared.Call.the-variants.{Fork, Clone, Unshare, Setns, WriteMap, WriteSetgroups, ReadMap, ReadSetgroups, SetIds, SetGroups, Capable, Drop, OwnIdsOf, Translate}
+use Rattle.records.specs.declared.Kind.the-variants.{User}
+use Rattle.credentials.specs.declared.translate.Way.the-variants.{Out}
+use Rattle.calls.specs.declared.Call.the-variants.{Clone, WriteMap, ReadMap, SetGroups, OwnIdsOf, Translate}
 use Rattle.calls.specs.Calls.{Request}
 use Rattle.prelude.specs.Parts.{part}
-use Rattle.journal.specs.declared.read.Stop.the-variants.{Version, Cut, Leftover}
+use Rattle.journal.specs.declared.read.Stop.the-variants.{Leftover}
 use Rattle.journal.specs.Numbers.{bigEndian, allBigEndian, numberFrom, numberAt}
 use Rattle.journal.specs.Layout.{byteOf, formOf, namesOf, numbersOf, callBy, templateOf, withByte}
 use Rattle.journal.specs.Journal.{bodyOf, recordOf, recordsOf, journalOf}

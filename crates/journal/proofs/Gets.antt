@@ -1,12 +1,12 @@
 -- Numbers that are read from bytes. Assumes nothing.
-use Prim.Native.Nat.{ℕ, zero, suc, _+_, _*_, _-_, _%_, _≤_, _<_, _^_}
+use Prim.Native.Nat.{ℕ, zero, suc, _+_, _*_, _-_, _≤_, _<_, _^_}
 use mathlib.Core.Path.{_≡_, refl, sym, ap, _∙_}
 use mathlib.Core.List.{List, [], _∷_}
 use native.Mathlib.Omega.{arith}
 use lib.ListN.{length, getD, set, take, drop}
 use lib.Seq.{paste, paste-zero}
 use borrow.Author.Needs.{needs}
-use Rattle.prelude.specs.Parts.{part, putAt}
+use Rattle.prelude.specs.Parts.{putAt}
 use Rattle.prelude.specs.Lists.{tab}
 use Rattle.prelude.proofs.Parts.{part-range, put-step, put-all}
 use Rattle.prelude.proofs.Made.{tab-all}

@@ -1,13 +1,13 @@
 -- A record that was found lies within its journal. Assumes nothing.
-use Prim.Native.Nat.{ℕ, _+_, _*_, _-_, _/_, _%_, _≤_, _<_}
+use Prim.Native.Nat.{ℕ, _+_, _*_, _-_, _≤_, _<_}
 use mathlib.Core.Path.{_≡_, refl, sym, ap, _∙_}
-use mathlib.Core.Bool.{Bool, true, false}
+use mathlib.Core.Bool.{false}
 use mathlib.Core.List.{List, [], _∷_}
 use native.Mathlib.Omega.{arith}
 use lib.Dec.{eqb, leb, ltb}
 use lib.ListN.{length, getD}
 use borrow.Author.Needs.{needs}
-use borrow.Author.Tests.{ltb-true, ltb-false, leb-true, leb-false, eqb-true, eqb-false}
+use borrow.Author.Tests.{ltb-true, ltb-false, leb-false, eqb-false}
 use Rattle.prelude.specs.Parts.{part, putAt}
 use Rattle.prelude.proofs.Tests.{by-test}
 use Rattle.prelude.proofs.Parts.{length-part}
@@ -24,7 +24,7 @@ use Rattle.journal.specs.declared.read.Read.{Read}
 use Rattle.journal.specs.declared.read.Read.the-variants.{Found, End, Stopped}
 use Rattle.journal.specs.Numbers.{numberFrom, numberAt, numbersAt}
 use Rattle.journal.specs.Layout.{version, templateOf, formOf, fixedBytes}
-use Rattle.journal.specs.Reading.{leftover, textBytes, idCount, restOf, recordIn, recordBy, bodyRead, recordAt, readAt, listAfter, idsAt}
+use Rattle.journal.specs.Reading.{leftover, textBytes, idCount, restOf, recordIn, recordBy, recordAt, readAt, listAfter}
 
 -- ---- what was found is no stop and no end
 stop-found : {at : ℕ} {why : Stop} {r : Record} → Stopped at why ≡ Found r → ⊥

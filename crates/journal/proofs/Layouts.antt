@@ -6,9 +6,7 @@ use borrow.Author.Tests.{ne-eqb}
 use native.Mathlib.Omega.{arith}
 use borrow.Author.Needs.{needs}
 use Rattle.records.specs.declared.Kind.{Kind}
-use Rattle.records.specs.declared.Kind.the-variants.{User, Group}
 use Rattle.credentials.specs.declared.translate.Way.{Way}
-use Rattle.credentials.specs.declared.translate.Way.the-variants.{Out, Back}
 use Rattle.calls.specs.declared.Call.{Call}
 use Rattle.calls.specs.declared.Call.the-variants.{Fork, Clone, Unshare, Setns, WriteMap, WriteSetgroups, ReadMap, ReadSetgroups, SetIds, SetGroups, Capable, Drop, OwnIdsOf, Translate}
 use Rattle.journal.specs.declared.layout.Template.{Template}

@@ -5,10 +5,10 @@ use mathlib.Core.List.{List, [], _∷_, _++_, append-assoc, append-nil}
 use native.Mathlib.Omega.{arith}
 use native.Mathlib.Numerals.{add-one}
 use lib.ListN.{length, getD, set, take, drop, length-append, length-take, length-set, take-append-drop, drop-of-length-le}
-use lib.Seq.{drop-at, drop-cons, drop-drop, drop-set-lt, getD-set-same, length-take-le, take-append-seam, take-set-le, lt-length-set}
+use lib.Seq.{drop-at, drop-cons, drop-drop, drop-set-lt, getD-set-same, take-append-seam, take-set-le, lt-length-set}
 use borrow.Author.Needs.{needs}
 use Rattle.prelude.specs.Parts.{putAt}
-use Rattle.prelude.proofs.Parts.{put-inside, put-outside, length-put}
+use Rattle.prelude.proofs.Parts.{put-inside, length-put}
 use Rattle.journal.specs.Numbers.{bigEndian, allBigEndian}
 
 -- ---- two stores

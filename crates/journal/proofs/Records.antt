@@ -1,14 +1,14 @@
 -- What the reader's tests say of a record. Assumes nothing.
-use Prim.Native.Nat.{ℕ, _+_, _*_, _-_, _/_, _≤_, _<_, _^_}
+use Prim.Native.Nat.{ℕ, _+_, _-_, _≤_, _<_}
 use mathlib.Core.Path.{_≡_, refl, sym, ap, _∙_}
 use mathlib.Core.Bool.{Bool, true, false}
 use mathlib.Core.List.{List}
 use native.Mathlib.Omega.{arith}
-use lib.Dec.{eqb, leb, ltb}
+use lib.Dec.{leb}
 use lib.ListN.{length, getD, take, drop}
 use borrow.Author.Needs.{needs}
 use borrow.Author.Tests.{lt-ltb, le-ltb, le-leb, lt-leb, leb-true, eq-eqb, ne-eqb}
-use Rattle.prelude.specs.Parts.{part, putAt}
+use Rattle.prelude.specs.Parts.{part}
 use Rattle.prelude.proofs.Parts.{part-range, length-part}
 use Rattle.records.specs.declared.Ids.{Ids}
 use Rattle.calls.specs.declared.Call.{Call}
@@ -19,12 +19,11 @@ use Rattle.journal.specs.declared.layout.Form.{Form}
 use Rattle.journal.specs.declared.layout.Template.{Template}
 use Rattle.journal.specs.declared.layout.Template.the-variants.{Of, Unknown}
 use Rattle.journal.specs.declared.read.Stop.the-variants.{Version, Cut, Short, UnknownCall, Leftover}
-use Rattle.journal.specs.declared.read.Record.{Record}
 use Rattle.journal.specs.declared.read.Read.{Read}
 use Rattle.journal.specs.declared.read.Read.the-variants.{Found, End, Stopped}
 use Rattle.journal.specs.Numbers.{numberAt}
 use Rattle.journal.specs.Layout.{version, templateOf, formBy, formOf, fixedBytes, callBy}
-use Rattle.journal.specs.Reading.{leftover, textBytes, idCount, bufferLength, threeIn, namesIn, numbersIn, recordIn, recordBy, bodyRead, recordAt, readAt, listAfter}
+use Rattle.journal.specs.Reading.{leftover, textBytes, idCount, bufferLength, threeIn, namesIn, numbersIn, recordBy, bodyRead, recordAt, readAt}
 
 -- ---- by what is lent
 module _ (lent d : Lent) (rest : ℕ) (e : lent ≡ d) where

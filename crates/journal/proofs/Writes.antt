@@ -1,33 +1,30 @@
 -- What the writer stores, piece by piece. Assumes nothing.
-use Prim.Native.Nat.{ℕ, zero, suc, _+_, _*_, _-_, _/_, _%_, _≤_, _<_, _^_}
+use Prim.Native.Nat.{ℕ, suc, _+_, _*_, _-_, _≤_, _<_, _^_}
 use mathlib.Core.Path.{_≡_, refl, sym, ap, _∙_}
 use mathlib.Core.Bool.{Bool, true, false}
 use mathlib.Core.List.{List, [], _∷_, _++_, append-assoc}
 use native.Mathlib.Omega.{arith}
 use native.Mathlib.Nat.{zero-mul, suc-mul}
-use lib.Dec.{leb, ltb}
+use lib.Dec.{ltb}
 use lib.Seq.{length-take-le}
-use lib.ListN.{length, getD, set, length-set, take, drop, length-append}
+use lib.ListN.{length, set, length-set, take, length-append}
 use borrow.Author.Needs.{needs}
 use borrow.Author.Tests.{lt-ltb, le-ltb}
 use Rattle.prelude.specs.Parts.{putAt}
 use Rattle.prelude.proofs.Parts.{length-put}
-use Rattle.records.specs.declared.Kind.the-variants.{User, Group}
-use Rattle.credentials.specs.declared.translate.Way.the-variants.{Out, Back}
 use Rattle.tables.specs.declared.answer.Errno.the-variants.{EINVAL, ERANGE}
 use Rattle.calls.specs.declared.Call.{Call}
 use Rattle.calls.specs.declared.Call.the-variants.{Fork, Clone, Unshare, Setns, WriteMap, WriteSetgroups, ReadMap, ReadSetgroups, SetIds, SetGroups, Capable, Drop, OwnIdsOf, Translate}
 use Rattle.journal.specs.declared.layout.Lent.{Lent}
-use Rattle.journal.specs.declared.layout.Lent.the-variants.{Nothing, Text, Groups, Buffer}
+use Rattle.journal.specs.declared.layout.Lent.the-variants.{Text, Groups}
 use Rattle.journal.specs.declared.layout.Form.{Form}
-use Rattle.journal.specs.declared.write.Written.{Written}
 use Rattle.journal.specs.declared.write.Written.the-variants.{Length, Refused}
 use Rattle.journal.specs.Numbers.{bigEndian, allBigEndian}
 use Rattle.journal.specs.Layout.{byteOf, formOf, fixedBytes, namesOf, numbersOf}
 use Rattle.journal.specs.Journal.{tailOf, longBuffer, bodyOf, recordOf, writeOf, bufferBy}
 use Rattle.journal.specs.Arguments.{HasNames, HasNumbers, numbersOn, namesOn}
 use Rattle.journal.proofs.Layouts.{few-names, few-numbers}
-use Rattle.journal.proofs.Puts.{put-nothing, put-append, put-last, length-number, length-numbers}
+use Rattle.journal.proofs.Puts.{put-nothing, put-append, put-last, length-number}
 
 -- ---- the arguments of a call
 module _ (c d : Call) (r : List ℕ) (e : c ≡ d) where

@@ -1,7 +1,7 @@
 -- A buffer of the longest text serves for any longer one. Assumes nothing.
-use Prim.Native.Nat.{ℕ, _+_, _*_, _-_, _≤_, _<_, min}
+use Prim.Native.Nat.{ℕ, _+_, _*_, _-_, _≤_, min}
 use mathlib.Core.Path.{_≡_, refl, sym, ap, _∙_}
-use mathlib.Core.Bool.{Bool, true, false, cond}
+use mathlib.Core.Bool.{Bool, true, false}
 use mathlib.Core.List.{List, [], _∷_, _++_, map, append-assoc, append-nil}
 use native.Mathlib.Omega.{arith}
 use lib.Dec.{leb}
@@ -12,7 +12,6 @@ use Rattle.prelude.specs.Parts.{part, fitsAt, putAt}
 use Rattle.prelude.proofs.Tests.{by-test}
 use Rattle.prelude.proofs.Parts.{put-inside}
 use Rattle.idmap.specs.declared.Line.{Line}
-use Rattle.idmap.specs.Good.{maxLines}
 use Rattle.idmap.specs.Show.{shown, numberText, lineColumns, lineText, linesText}
 use Rattle.records.specs.declared.Kind.{Kind}
 use Rattle.records.specs.Records.{mapIn, linesOf}
@@ -20,17 +19,17 @@ use Rattle.tables.specs.Tables.{State, processAt, namespaceAt}
 use Rattle.tables.specs.Find.{callerNamed, processNamed}
 use Rattle.tables.specs.declared.find.Found.{Found}
 use Rattle.tables.specs.declared.find.Found.the-variants.{At, Nothing}
-use Rattle.tables.specs.Reply.{Reply, refused, bytes, onFound}
+use Rattle.tables.specs.Reply.{refused, bytes, onFound}
 use Rattle.hierarchy.specs.Lifted.{byLiftedMaps, quick}
 use Rattle.mapping.specs.Calls.{ReadOutcome, readText, viewOf, shownLine, mapTextOf, readMapOf, settingText, readSetgroupsOf}
 use Rattle.calls.specs.declared.Call.{Call}
 use Rattle.calls.specs.declared.Call.the-variants.{Fork, Clone, Unshare, Setns, WriteMap, WriteSetgroups, ReadMap, ReadSetgroups, SetIds, SetGroups, Capable, Drop, OwnIdsOf, Translate}
-use Rattle.calls.specs.Calls.{Step, answerBy, answerOf}
+use Rattle.calls.specs.Calls.{Step, answerBy}
 use Rattle.journal.specs.declared.layout.Lent.the-variants.{Buffer}
 use Rattle.journal.specs.Layout.{formOf}
 use Rattle.journal.specs.declared.read.Record.{Record}
 use Rattle.journal.specs.declared.read.Read.the-variants as read
-use Rattle.journal.specs.Reading.{idsAt, requestAt}
+use Rattle.journal.specs.Reading.{idsAt}
 use Rattle.journal.proofs.Records.{nothing-buffer, text-buffer, groups-buffer}
 use Rattle.replay_step.specs.Replay.{maxRead, replayOf, FewLines, SameAnswer}
 

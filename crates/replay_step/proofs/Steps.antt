@@ -1,10 +1,10 @@
 -- What the step makes a call with is what the record says. Assumes nothing.
-use Prim.Native.Nat.{ℕ, _+_, _*_, _-_, _≤_, _<_, min}
-use mathlib.Core.Path.{_≡_, refl, sym, ap, _∙_, subst}
+use Prim.Native.Nat.{ℕ, _+_, _*_, _-_, _≤_, min}
+use mathlib.Core.Path.{_≡_, refl, sym, ap, _∙_}
 use mathlib.Core.List.{List, _++_}
 use native.Mathlib.Omega.{arith}
 use lib.Dec.{leb}
-use lib.ListN.{length, take, drop, length-take, drop-of-length-le}
+use lib.ListN.{length, take, drop, drop-of-length-le}
 use lib.Seq.{length-take-le}
 use borrow.Author.Needs.{needs}
 use borrow.Author.Tests.{leb-true, leb-false}
@@ -26,7 +26,7 @@ use Rattle.journal.specs.declared.read.Read.the-variants.{Found, End, Stopped}
 use Rattle.journal.specs.Reading.{readAt, listAfter, idsAt}
 use Rattle.journal.proofs.Gets.{length-tab}
 use Rattle.journal.proofs.Inside.{found-inside}
-use Rattle.replay_step.specs.Replay.{behind, callOf, madeOf, replayOf, Inside, Unchanged}
+use Rattle.replay_step.specs.Replay.{behind, madeOf, replayOf, Unchanged}
 
 -- ---- a prefix that is lent
 pub prefix-long : (n : ℕ) (l : List ℕ) → n ≤ length l → n ≡ length (take n l)
