@@ -56,6 +56,41 @@ enum oarhatchet_errno {
     OARHATCHET_EUSERS = 87  /* level 33 asked for */
 };
 
+/*
+ * The journal of calls: docs/journal.md has the format. A journal is the version byte and then a record for each call.
+ */
+/* The first byte of a journal. */
+#define OARHATCHET_JOURNAL_VERSION 1
+/* The bytes of the longest record: a buffer of as many has room for any. */
+#define OARHATCHET_MAX_RECORD 65537
+/* The most names of a call, the caller among them, and the most other numbers. */
+#define OARHATCHET_MAX_NAMES 3
+#define OARHATCHET_MAX_NUMBERS 3
+
+/* The call bytes. */
+enum oarhatchet_call {
+    OARHATCHET_CALL_FORK = 0x10,
+    OARHATCHET_CALL_CLONE = 0x11,
+    OARHATCHET_CALL_UNSHARE = 0x14,
+    OARHATCHET_CALL_SETNS = 0x17,
+    OARHATCHET_CALL_WRITE_UID_MAP = 0x20,
+    OARHATCHET_CALL_WRITE_GID_MAP = 0x21,
+    OARHATCHET_CALL_WRITE_SETGROUPS = 0x22,
+    OARHATCHET_CALL_READ_UID_MAP = 0x23,
+    OARHATCHET_CALL_READ_GID_MAP = 0x24,
+    OARHATCHET_CALL_READ_SETGROUPS = 0x25,
+    OARHATCHET_CALL_SETRESUID = 0x30,
+    OARHATCHET_CALL_SETRESGID = 0x31,
+    OARHATCHET_CALL_SETGROUPS = 0x32,
+    OARHATCHET_CALL_CAPSET = 0x33,
+    OARHATCHET_CALL_GETIDS = 0x34,
+    OARHATCHET_CALL_CAPABLE = 0x40,
+    OARHATCHET_CALL_TRANSLATE_UID_OUT = 0x41,
+    OARHATCHET_CALL_TRANSLATE_UID_BACK = 0x42,
+    OARHATCHET_CALL_TRANSLATE_GID_OUT = 0x43,
+    OARHATCHET_CALL_TRANSLATE_GID_BACK = 0x44
+};
+
 /* Answers OARHATCHET_TABLES, as the archive has it: a program may compare the two before its first call. */
 uint64_t oarhatchet_words(void);
 
@@ -185,6 +220,20 @@ int64_t oarhatchet_translate_gid_out(
     const uint64_t tables[OARHATCHET_TABLES], uint64_t caller, uint64_t target, uint32_t id);
 int64_t oarhatchet_translate_gid_back(
     const uint64_t tables[OARHATCHET_TABLES], uint64_t caller, uint64_t target, uint32_t id);
+
+/*
+ * Writes the record of the call that has this call byte to the buffer from the place `at` on, and answers how many
+ * bytes it has. The call's names, the caller first, and its other numbers stand in order in the two arrays, as
+ * docs/journal.md lists them. It has the text if it is a write, the list if it is oarhatchet_setgroups, and the
+ * length of its buffer if it is a read. What the call does not have is not looked at. No table is asked, so a call
+ * can be written before it is made.
+ * EINVAL: no call has the call byte, or the text or the list is too long for a record, or the length of a read's
+ * buffer is over 4294967295. ERANGE: the buffer has no room for the record at that place.
+ */
+int64_t oarhatchet_write_record(
+    uint8_t call, const uint64_t names[OARHATCHET_MAX_NAMES], const uint32_t numbers[OARHATCHET_MAX_NUMBERS],
+    const uint8_t *text, size_t text_length, const uint32_t *list, size_t count, uint64_t length, uint8_t *buffer,
+    size_t buffer_length, size_t at);
 
 #ifdef __cplusplus
 }

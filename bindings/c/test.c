@@ -1,4 +1,4 @@
-/* Tests the header and the archive from C: scenarios of document 01, each call once, and refusals. */
+/* Tests the header and the archive from C: scenarios of document 01, each call once, refusals, and the journal. */
 #include "oarhatchet.h"
 
 #include <stdio.h>
@@ -277,6 +277,73 @@ static void names_that_name_nothing(void)
     CHECK((int64_t)space, 77);
 }
 
+/* The first journal of docs/journal.md: a clone, a write of the child's user map, and the read of that map. */
+static const uint8_t first_journal[64] = {
+    1,
+    0, 9, 0x11, 0, 0, 0, 0, 0, 0, 0, 1,
+    0, 0x1b, 0x20, 0, 0, 0, 0, 0, 0, 0, 1, 0, 0, 0, 0, 0, 0, 0, 2, '0', ' ', '1', '0', '0', '0', '0', ' ', '5', '\n',
+    0, 0x15, 0x23, 0, 0, 0, 0, 0, 0, 0, 1, 0, 0, 0, 0, 0, 0, 0, 2, 0, 0, 0, 0x28};
+
+static uint8_t journal[OARHATCHET_MAX_RECORD];
+
+/* Writes a record to the journal from a place on; its names and other numbers are given in order. */
+static int64_t write_record(
+    uint8_t call, uint64_t caller, uint64_t second, uint64_t third, uint32_t number, const char *text, uint64_t length,
+    size_t at)
+{
+    uint64_t names[OARHATCHET_MAX_NAMES] = {caller, second, third};
+    uint32_t numbers[OARHATCHET_MAX_NUMBERS] = {number, number + 1, number + 2};
+    uint32_t list[2] = {5, 70000};
+    return oarhatchet_write_record(
+        call, names, numbers, (const uint8_t *)text, strlen(text), list, 2, length, journal, sizeof journal, at);
+}
+
+static void records_are_the_journals_bytes(void)
+{
+    static const uint8_t groups[19] = {0, 0x11, 0x32, 0, 0, 0, 0, 0, 0, 0, 1, 0, 0, 0, 5, 0, 1, 0x11, 0x70};
+    static const uint8_t ids[23] = {
+        0, 0x15, 0x30, 0, 0, 0, 0, 0, 0, 0, 1, 0, 0, 0, 7, 0, 0, 0, 8, 0, 0, 0, 9};
+    static const uint8_t sets[27] = {
+        0, 0x19, 0x33, 0, 0, 0, 0, 0, 0, 0, 1, 0, 0, 0, 0, 0, 0, 0, 2, 1, 2, 3, 4, 5, 6, 7, 8};
+    static const uint8_t question[23] = {
+        0, 0x15, 0x41, 0, 0, 0, 0, 0, 0, 0, 1, 0, 0, 0, 0, 0, 0, 0, 0, 0, 0, 0xff, 0xff};
+
+    memset(journal, '.', sizeof journal);
+    journal[0] = OARHATCHET_JOURNAL_VERSION;
+    CHECK(write_record(OARHATCHET_CALL_CLONE, 1, 77, 77, 77, "none", 77, 1), 11);
+    CHECK(write_record(OARHATCHET_CALL_WRITE_UID_MAP, 1, 2, 77, 77, "0 10000 5\n", 77, 12), 29);
+    CHECK(write_record(OARHATCHET_CALL_READ_UID_MAP, 1, 2, 77, 77, "none", 40, 41), 23);
+    CHECK(memcmp(journal, first_journal, sizeof first_journal), 0);
+    CHECK(holds(journal + sizeof first_journal, sizeof journal - sizeof first_journal, ""), 1);
+
+    CHECK(write_record(OARHATCHET_CALL_SETGROUPS, 1, 77, 77, 77, "none", 77, 0), sizeof groups);
+    CHECK(memcmp(journal, groups, sizeof groups), 0);
+    CHECK(write_record(OARHATCHET_CALL_SETRESUID, 1, 77, 77, 7, "none", 77, 0), sizeof ids);
+    CHECK(memcmp(journal, ids, sizeof ids), 0);
+    CHECK(write_record(OARHATCHET_CALL_CAPSET, 1, 2, UINT64_C(0x102030405060708), 77, "none", 77, 0), sizeof sets);
+    CHECK(memcmp(journal, sets, sizeof sets), 0);
+    CHECK(write_record(OARHATCHET_CALL_TRANSLATE_UID_OUT, 1, 0, 77, 65535, "none", 77, 0), sizeof question);
+    CHECK(memcmp(journal, question, sizeof question), 0);
+}
+
+static void records_are_refused(void)
+{
+    static char text[65520];
+    size_t room = sizeof journal;
+
+    memset(journal, '.', sizeof journal);
+    memset(text, ' ', sizeof text - 1);
+    CHECK(write_record(0x12, 1, 0, 0, 0, "", 0, 0), -OARHATCHET_EINVAL);
+    CHECK(write_record(OARHATCHET_CALL_WRITE_GID_MAP, 1, 2, 0, 0, text, 0, 0), -OARHATCHET_EINVAL);
+    CHECK(write_record(OARHATCHET_CALL_READ_SETGROUPS, 1, 2, 0, 0, "", UINT64_C(1) << 32, 0), -OARHATCHET_EINVAL);
+    CHECK(write_record(OARHATCHET_CALL_FORK, 1, 0, 0, 0, "", 0, room - 10), -OARHATCHET_ERANGE);
+    CHECK(write_record(OARHATCHET_CALL_FORK, 1, 0, 0, 0, "", 0, SIZE_MAX), -OARHATCHET_ERANGE);
+    CHECK(holds(journal, sizeof journal, ""), 1);
+    CHECK(write_record(OARHATCHET_CALL_FORK, 1, 0, 0, 0, "", 0, room - 11), 11);
+    text[65518] = 0;
+    CHECK(write_record(OARHATCHET_CALL_WRITE_GID_MAP, 1, 2, 0, 0, text, 0, 0), OARHATCHET_MAX_RECORD);
+}
+
 int main(void)
 {
     CHECK((int64_t)oarhatchet_words(), OARHATCHET_TABLES);
@@ -291,6 +358,8 @@ int main(void)
     full_tables_refuse();
     own_ids_and_sets();
     names_that_name_nothing();
+    records_are_the_journals_bytes();
+    records_are_refused();
     printf("c: %d checks passed\n", checks);
     return 0;
 }

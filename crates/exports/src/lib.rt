@@ -24,6 +24,8 @@ use tables::Tables;
 use tables::answer::Answer;
 use tables::answer::Errno;
 
+mod record;
+
 // The number of a refusal.
 fn number(e: Errno) -> u64
     ensures { λ r. ⌜ r ≡ numberOf e ⌝ }
@@ -43,7 +45,7 @@ fn number(e: Errno) -> u64
 const MINUS_ONE: u64 = 18446744073709551615;
 
 // The number of a refusal, negated.
-fn refusal(e: Errno) -> u64
+pub(crate) fn refusal(e: Errno) -> u64
     ensures { λ r. ⌜ r ≡ negated (numberOf e) ⌝ }
 {
     MINUS_ONE - (number(e) - 1)
