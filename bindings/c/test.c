@@ -344,6 +344,113 @@ static void records_are_refused(void)
     CHECK(write_record(OARHATCHET_CALL_WRITE_GID_MAP, 1, 2, 0, 0, text, 0, 0), OARHATCHET_MAX_RECORD);
 }
 
+/* The second journal of docs/journal.md: groups, own IDs, a translation, and a fork with a byte too many. */
+static const uint8_t second_journal[66] = {
+    1,
+    0, 0x11, 0x32, 0, 0, 0, 0, 0, 0, 0, 1, 0, 0, 0, 5, 0, 1, 0x11, 0x70,
+    0, 9, 0x34, 0, 0, 0, 0, 0, 0, 0, 1,
+    0, 0x15, 0x41, 0, 0, 0, 0, 0, 0, 0, 1, 0, 0, 0, 0, 0, 0, 0, 0, 0, 0, 0xff, 0xff,
+    0, 0x0a, 0x10, 0, 0, 0, 0, 0, 0, 0, 1, 0};
+
+static uint64_t record[OARHATCHET_RECORD_WORDS];
+static uint32_t list[OARHATCHET_MAX_IDS];
+static uint8_t text[OARHATCHET_MAX_READ];
+static uint32_t own[OARHATCHET_IDS];
+
+/* Makes the call at an offset of a journal. */
+static int64_t replay(const uint8_t *bytes, size_t length, size_t at)
+{
+    return oarhatchet_replay(tables, bytes, length, at, record, list, text, own);
+}
+
+/* Compares the words with twelve others, and counts one check. */
+static void check_words(int line, const uint64_t expected[OARHATCHET_RECORD_WORDS])
+{
+    size_t i;
+    for (i = 0; i < OARHATCHET_RECORD_WORDS; i++)
+        if (record[i] != expected[i]) {
+            fprintf(stderr, "test.c:%d: word %d is %llu\n", line, (int)i, (unsigned long long)record[i]);
+            exit(1);
+        }
+    checks++;
+}
+
+#define CHECK_WORDS(...) \
+    do { \
+        const uint64_t expected[OARHATCHET_RECORD_WORDS] = {__VA_ARGS__}; \
+        check_words(__LINE__, expected); \
+    } while (0)
+
+static void a_journal_is_replayed(void)
+{
+    size_t size = sizeof first_journal;
+
+    oarhatchet_initial(tables);
+    memset(text, '.', sizeof text);
+    CHECK(replay(first_journal, size, 0), 2);
+    CHECK_WORDS(OARHATCHET_CALL_CLONE, 1, 0, 0, 0, 0, 0, 12, 0, 0, 12, 1);
+    CHECK(replay(first_journal, size, 12), 0);
+    CHECK_WORDS(OARHATCHET_CALL_WRITE_UID_MAP, 1, 2, 0, 0, 0, 0, 31, 10, 0, 41, 0);
+    CHECK(holds(text, sizeof text, ""), 1);
+    CHECK(replay(first_journal, size, 41), LINE);
+    CHECK_WORDS(OARHATCHET_CALL_READ_UID_MAP, 1, 2, 0, 40, 0, 0, 64, 0, 0, 64, 0);
+    CHECK(holds(text, sizeof text, "         0      10000          5\n"), 1);
+    CHECK(replay(first_journal, size, 64), 0);
+    CHECK_WORDS(OARHATCHET_JOURNAL_END, 0, 0, 0, 0, 0, 0, 0, 0, 0, 64, 0);
+    CHECK(oarhatchet_translate_uid_out(tables, 1, 1, 4), 10004);
+}
+
+static void a_bad_record_stops(void)
+{
+    size_t i, size = sizeof second_journal;
+
+    oarhatchet_initial(tables);
+    memset(own, 0xff, sizeof own);
+    CHECK(replay(second_journal, size, 0), 0);
+    CHECK_WORDS(OARHATCHET_CALL_SETGROUPS, 1, 0, 0, 0, 0, 0, 12, 0, 2, 20, 0);
+    CHECK(list[0], 5);
+    CHECK(list[1], 70000);
+    CHECK(own[0], OARHATCHET_NO_ID);
+    CHECK(replay(second_journal, size, 20), 2);
+    CHECK_WORDS(OARHATCHET_CALL_GETIDS, 1, 0, 0, 0, 0, 0, 31, 0, 0, 31, 0);
+    for (i = 0; i < OARHATCHET_IDS; i++)
+        CHECK(own[i], i == 6 ? 5 : i == 7 ? 70000 : 0);
+    CHECK(replay(second_journal, size, 31), 65535);
+    CHECK_WORDS(OARHATCHET_CALL_TRANSLATE_UID_OUT, 1, 0, 0, 65535, 0, 0, 54, 0, 0, 54, 0);
+    memcpy(before, tables, sizeof tables);
+    CHECK(replay(second_journal, size, 54), 0);
+    CHECK_WORDS(OARHATCHET_STOP_LEFTOVER, 0, 0, 0, 0, 0, 0, 0, 0, 0, 54, 0);
+    CHECK(replay(second_journal, 65, 54), 0);
+    CHECK_WORDS(OARHATCHET_STOP_CUT, 0, 0, 0, 0, 0, 0, 0, 0, 0, 54, 0);
+    CHECK(replay(second_journal + 1, size - 1, 0), 0);
+    CHECK_WORDS(OARHATCHET_STOP_VERSION, 0, 0, 0, 0, 0, 0, 0, 0, 0, 0, 0);
+    CHECK(replay(first_journal, 2, 0), 0);
+    CHECK_WORDS(OARHATCHET_STOP_CUT, 0, 0, 0, 0, 0, 0, 0, 0, 0, 1, 0);
+    CHECK(memcmp(before, tables, sizeof tables), 0);
+}
+
+/* A call that is refused has its record, and its answer when it is made again. */
+static void a_refused_call_is_replayed(void)
+{
+    size_t end = 1;
+
+    journal[0] = OARHATCHET_JOURNAL_VERSION;
+    end += (size_t)write_record(OARHATCHET_CALL_CLONE, 9, 0, 0, 0, "", 0, end);
+    end += (size_t)write_record(OARHATCHET_CALL_READ_GID_MAP, 1, 1, 0, 0, "", LINE - 1, end);
+    end += (size_t)write_record(OARHATCHET_CALL_CAPSET, 1, UINT64_MAX, FULL, 0, "", 0, end);
+    oarhatchet_initial(tables);
+    CHECK(replay(journal, end, 0), -OARHATCHET_ESRCH);
+    CHECK_WORDS(OARHATCHET_CALL_CLONE, 9, 0, 0, 0, 0, 0, 12, 0, 0, 12, 0);
+    memset(text, '.', sizeof text);
+    CHECK(replay(journal, end, (size_t)record[OARHATCHET_WORD_NEXT]), -OARHATCHET_ERANGE);
+    CHECK_WORDS(OARHATCHET_CALL_READ_GID_MAP, 1, 1, 0, LINE - 1, 0, 0, 35, 0, 0, 35, 0);
+    CHECK(holds(text, sizeof text, ""), 1);
+    CHECK(replay(journal, end, (size_t)record[OARHATCHET_WORD_NEXT]), -OARHATCHET_EPERM);
+    CHECK_WORDS(OARHATCHET_CALL_CAPSET, 1, UINT64_MAX, FULL, 0, 0, 0, end, 0, 0, end, 0);
+    CHECK(replay(journal, end, SIZE_MAX), 0);
+    CHECK_WORDS(OARHATCHET_JOURNAL_END, 0, 0, 0, 0, 0, 0, 0, 0, 0, SIZE_MAX, 0);
+}
+
 int main(void)
 {
     CHECK((int64_t)oarhatchet_words(), OARHATCHET_TABLES);
@@ -360,6 +467,9 @@ int main(void)
     names_that_name_nothing();
     records_are_the_journals_bytes();
     records_are_refused();
+    a_journal_is_replayed();
+    a_bad_record_stops();
+    a_refused_call_is_replayed();
     printf("c: %d checks passed\n", checks);
     return 0;
 }
