@@ -1,5 +1,6 @@
-// Every call for programs in other languages: bindings/c/oarhatchet.h has the C names and types. Tables cross as one
-// pointer to the lent array, texts, lists and buffers as pointer and length, answers as numbers.
+// Every call, and the journal of calls, for programs in other languages: bindings/c/oarhatchet.h has the C names and
+// types. Tables cross as one pointer to the lent array, texts, lists and buffers as pointer and length, answers as
+// numbers.
 ghost use Prim.Native.Nat.{_≤_};
 ghost use mathlib.Core.Path.{_≡_};
 ghost use lib.ListN.{length};
