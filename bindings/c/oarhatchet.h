@@ -112,7 +112,7 @@ enum oarhatchet_word {
     OARHATCHET_WORD_CALL = 0,      /* the call byte, or one of enum oarhatchet_stop */
     OARHATCHET_WORD_NAMES = 1,     /* three places: the call's names in order, the caller first */
     OARHATCHET_WORD_NUMBERS = 4,   /* three places: its other numbers in order; of a read the length of its buffer */
-    OARHATCHET_WORD_TAIL = 7,      /* the offset where its text or its list starts */
+    OARHATCHET_WORD_TAIL = 7,      /* the offset where these end, and its text or its list starts */
     OARHATCHET_WORD_TEXT = 8,      /* the bytes of its text */
     OARHATCHET_WORD_IDS = 9,       /* the IDs of its list */
     OARHATCHET_WORD_NEXT = 10,     /* the offset of the next record */
@@ -252,9 +252,8 @@ int64_t oarhatchet_translate_gid_back(
 /*
  * Writes the record of the call that has this call byte to the buffer from the place `at` on, and answers how many
  * bytes it has. The call's names, the caller first, and its other numbers stand in order in the two arrays, as
- * docs/journal.md lists them. It has the text if it is a write, the list if it is oarhatchet_setgroups, and the
- * length of its buffer if it is a read. What the call does not have is not looked at. No table is asked, so a call
- * can be written before it is made.
+ * docs/journal.md lists them; of a read `length` is the length of its buffer. What the call does not have is not
+ * looked at. No table is asked, so a call can be written before it is made.
  * EINVAL: no call has the call byte, or the text or the list is too long for a record, or the length of a read's
  * buffer is over 4294967295. ERANGE: the buffer has no room for the record at that place.
  */
@@ -269,12 +268,12 @@ int64_t oarhatchet_write_record(
  *
  * Stores what stands there in the twelve words of enum oarhatchet_word, with 0 for all that a call does not have.
  * The IDs of the call's list are put into list, the text of a read to the front of buffer, and own IDs into ids, as
- * oarhatchet_getids stores them. A read is made with a buffer of OARHATCHET_MAX_READ bytes at most, which has room for
- * every text.
+ * oarhatchet_getids stores them; a call that is refused has its words and its list too. A read is made with a buffer of
+ * OARHATCHET_MAX_READ bytes at most, which has room for every text.
  *
- * At the journal's end and at a stop no call is made: the answer is 0, nothing else is written, and the word
+ * At the journal's end and at a stop no call is made: the answer is 0, only the words are written, and the word
  * OARHATCHET_WORD_NEXT is the offset given at the end, and that of the bad record at a stop. So a loop goes on from
- * OARHATCHET_WORD_NEXT while the word OARHATCHET_WORD_CALL is over OARHATCHET_STOP_LEFTOVER.
+ * OARHATCHET_WORD_NEXT while OARHATCHET_WORD_CALL is a call byte: each is over OARHATCHET_STOP_LEFTOVER.
  */
 int64_t oarhatchet_replay(
     uint64_t tables[OARHATCHET_TABLES], const uint8_t *journal, size_t length, size_t at,

@@ -22,8 +22,8 @@ pub const MAX_RECORD: usize = 65537;
 pub const MAX_IDS: usize = 16381;
 pub const MAX_READ: usize = 165;
 
-/// The words that tell what stands at an offset of a journal, with the places of some of them: what it is, the names
-/// and the other numbers of a call, where its text starts, its bytes, the IDs of its list, an offset, and the
+/// The words that tell what stands at an offset of a journal, and their places: what it is, the names and the other
+/// numbers of a call, where these end and its text starts, the bytes of that, the IDs of its list, an offset, and the
 /// namespace that it made.
 pub const RECORD_WORDS: usize = 12;
 pub const WORD_CALL: usize = 0;

@@ -14,7 +14,7 @@ use Rattle.journal.specs.declared.write.Written.the-variants.{Refused}
 use Rattle.journal.specs.Layout.{templateOf, callBy}
 use Rattle.journal.specs.Journal.{writeOf, bufferBy}
 use Rattle.exports.specs.Codes.{negated}
-use Rattle.exports.specs.Journal.{writtenCode, recordBy, bufferAfter}
+use Rattle.exports.specs.Journal.{writtenCode, writeBy, bufferAfter}
 
 -- what a match on a template's call knows, and what its arm gives
 pub call-known : (c d r : Call) (a b : List ℕ) → c ≡ d → r ≡ callBy d a b → r ≡ callBy c a b
@@ -29,7 +29,7 @@ module _ (byte : ℕ) (t : Template) (e : t ≡ templateOf byte) (a b text list 
     of-byte : templateOf byte ≡ Of d
     of-byte = sym e ∙ p
 
-    pub record-answer : (w : Written) (r : ℕ) → w ≡ writeOf c text list n buffer at → r ≡ writtenCode w → r ≡ writtenCode (recordBy (templateOf byte) a b text list n buffer at)
+    pub record-answer : (w : Written) (r : ℕ) → w ≡ writeOf c text list n buffer at → r ≡ writtenCode w → r ≡ writtenCode (writeBy (templateOf byte) a b text list n buffer at)
     record-answer w r h k = rw (of-byte, ← q, ← h) k
 
     pub record-bytes : (after : List ℕ) → after ≡ bufferBy c text list n (writeOf c text list n buffer at) buffer at → after ≡ bufferAfter (templateOf byte) a b text list n buffer at
@@ -39,7 +39,7 @@ module _ (byte : ℕ) (t : Template) (e : t ≡ templateOf byte) (a b text list 
     no-byte : templateOf byte ≡ Unknown
     no-byte = sym e ∙ p
 
-    pub unknown-answer : (r : ℕ) → r ≡ negated (numberOf EINVAL) → r ≡ writtenCode (recordBy (templateOf byte) a b text list n buffer at)
+    pub unknown-answer : (r : ℕ) → r ≡ negated (numberOf EINVAL) → r ≡ writtenCode (writeBy (templateOf byte) a b text list n buffer at)
     unknown-answer r h = rw no-byte h
 
     pub unknown-bytes : buffer ≡ bufferAfter (templateOf byte) a b text list n buffer at

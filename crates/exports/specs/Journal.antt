@@ -19,9 +19,9 @@ writtenCode (Refused e) = negated (numberOf e)
 
 -- what is answered for the call of a call byte's template, with its names and its other numbers in order: as the writer
 -- does for that call, and 22 where no call has the byte
-abbrev pub recordBy : Template → List ℕ → List ℕ → List ℕ → List ℕ → ℕ → List ℕ → ℕ → Written
-recordBy Unknown names numbers text list n buffer at = Refused EINVAL
-recordBy (Of d) names numbers text list n buffer at = writeOf (callBy d names numbers) text list n buffer at
+abbrev pub writeBy : Template → List ℕ → List ℕ → List ℕ → List ℕ → ℕ → List ℕ → ℕ → Written
+writeBy Unknown names numbers text list n buffer at = Refused EINVAL
+writeBy (Of d) names numbers text list n buffer at = writeOf (callBy d names numbers) text list n buffer at
 
 -- and what stands in the buffer then: the record, or what was there
 abbrev pub bufferAfter : Template → List ℕ → List ℕ → List ℕ → List ℕ → ℕ → List ℕ → ℕ → List ℕ

@@ -35,8 +35,8 @@ stopNumber Short = 3
 stopNumber UnknownCall = 4
 stopNumber Leftover = 5
 
--- a call: its call byte, its names and its other numbers; where its text or list starts, the bytes of the one and the IDs
--- of the other; where the next record starts, and the namespace that the call made
+-- a call: its call byte, its names and its other numbers; where these end and its text or list starts, the bytes of the
+-- one and the IDs of the other; where the next record starts, and the namespace that the call made
 abbrev pub foundWords : Record → ℕ → List ℕ
 foundWords r namespace =
     byteOf (r .call) ∷ (firstThree (namesOf (r .call)) ++ firstThree (numbersOf (r .call) (r .buffer))

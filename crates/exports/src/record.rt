@@ -1,7 +1,7 @@
 // The records of calls, for programs in other languages that keep a journal.
 ghost use mathlib.Core.Path.{_≡_};
 ghost use Rattle.journal.specs.Layout.{templateOf, callBy};
-ghost use Rattle.exports.specs.Journal.{writtenCode, recordBy, bufferAfter};
+ghost use Rattle.exports.specs.Journal.{writtenCode, writeBy, bufferAfter};
 use crate::refusal;
 use calls::Call;
 use journal::layout::Template;
@@ -68,7 +68,7 @@ pub extern "C" fn oarhatchet_write_record(
     buffer: &mut [u8],
     at: usize,
 ) -> u64
-    ensures answer { λ r. ⌜ r ≡ writtenCode (recordBy (templateOf call) (now (names .entry)) (now (numbers .entry)) (now (text .entry)) (now (list .entry)) length (now (buffer .entry)) at) ⌝ }
+    ensures answer { λ r. ⌜ r ≡ writtenCode (writeBy (templateOf call) (now (names .entry)) (now (numbers .entry)) (now (text .entry)) (now (list .entry)) length (now (buffer .entry)) at) ⌝ }
     ensures bytes { λ r. ⌜ now (buffer .exit) ≡ bufferAfter (templateOf call) (now (names .entry)) (now (numbers .entry)) (now (text .entry)) (now (list .entry)) length (now (buffer .entry)) at ⌝ }
 {
     match journal::layout::template_of(call) {

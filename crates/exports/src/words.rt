@@ -8,8 +8,8 @@ use journal::read::Read;
 use journal::read::Record;
 use journal::read::Stop;
 
-// The words of what stands at an offset: what it is, three names, three other numbers, where the call's text or list
-// starts, the bytes of the one, the IDs of the other, an offset, and the new namespace of a clone.
+// The words of what stands at an offset: what it is, three names, three other numbers, where these end and the call's
+// text or list starts, the bytes of the one, the IDs of the other, an offset, and the new namespace of a clone.
 pub const RECORD_WORDS: usize = 12;
 
 // The names of a call in order, the caller first, and 0 past the last.

@@ -64,7 +64,8 @@ impl<W: Write> Recorder<W> {
         Ok(Recorder::resume(Tables::new(), writer))
     }
 
-    /// Goes on with a journal: the tables are those after its calls, and the writer appends to it. It writes nothing.
+    /// Goes on with a journal: the tables are those after its calls, and the writer appends to it. It writes nothing
+    /// itself. A journal that stops is first cut at the stop's offset.
     ///
     /// ```
     /// use oarhatchet::journal::{replay, Recorder};
