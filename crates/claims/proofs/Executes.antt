@@ -17,17 +17,17 @@ use Rattle.claims.proofs.Exported.{exported-step}
 
 -- ---- one call more at the end of a list
 module _ (by : State → Translation) (r : Request) where
-  run-more : (s : State) (rs : List Request) → runFrom by s (rs ++ (r ∷ [])) ≡ stepOf by (runFrom by s rs) r .tables
+  pub run-more : (s : State) (rs : List Request) → runFrom by s (rs ++ (r ∷ [])) ≡ stepOf by (runFrom by s rs) r .tables
   unfolding runFrom
   run-more s [] = refl
   run-more s (q ∷ rs) = run-more (stepOf by s q .tables) rs
 
-  history-more : (s : State) (h : List Entry) (rs : List Request) → historyFrom by s h (rs ++ (r ∷ [])) ≡ entryOf r (stepOf by (runFrom by s rs) r) ∷ historyFrom by s h rs
+  pub history-more : (s : State) (h : List Entry) (rs : List Request) → historyFrom by s h (rs ++ (r ∷ [])) ≡ entryOf r (stepOf by (runFrom by s rs) r) ∷ historyFrom by s h rs
   unfolding runFrom historyFrom
   history-more s h [] = refl
   history-more s h (q ∷ rs) = history-more (stepOf by s q .tables) (entryOf q (stepOf by s q) ∷ h) rs
 
-fits-more : (rs : List Request) (r : Request) → AllFit rs → Fits r → AllFit (rs ++ (r ∷ []))
+pub fits-more : (rs : List Request) (r : Request) → AllFit rs → Fits r → AllFit (rs ++ (r ∷ []))
 unfolding AllFit
 fits-more [] r a f = (f, tt)
 fits-more (q ∷ rs) r a f = (a .0, fits-more rs r (a .1) f)

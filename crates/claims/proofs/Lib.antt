@@ -22,6 +22,7 @@ pub mod Unread
 pub mod Bounds
 pub mod Exported
 pub mod Executes
+pub mod Replayed
 pub mod Refusals
 pub mod Scenarios
 pub mod Examples

@@ -10,4 +10,5 @@ pub mod Bounds
 pub mod Refusals
 pub mod AsDocument
 pub mod Execution
+pub mod Replaying
 pub mod Scenarios

@@ -35,13 +35,13 @@ module _ (lent d : Lent) (rest : ℕ) (e : lent ≡ d) where
   ids-known r p = rw e p
 
 -- a call that is lent a buffer has two names, and its length
-nothing-buffer : Nothing ≡ Buffer → ⊥
+pub nothing-buffer : Nothing ≡ Buffer → ⊥
 nothing-buffer e = let z : _≡_ {A = ℕ} 0 1 = cc in omega arith
 
-text-buffer : Text ≡ Buffer → ⊥
+pub text-buffer : Text ≡ Buffer → ⊥
 text-buffer e = let z : _≡_ {A = ℕ} 0 1 = cc in omega arith
 
-groups-buffer : Groups ≡ Buffer → ⊥
+pub groups-buffer : Groups ≡ Buffer → ⊥
 groups-buffer e = let z : _≡_ {A = ℕ} 0 1 = cc in omega arith
 
 pub read-form : (c : Call) → formOf c .lent ≡ Buffer → formOf c ≡ formBy 2 1 Buffer

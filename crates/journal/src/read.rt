@@ -184,6 +184,7 @@ fn record_in(at: usize, body: &[u8], c: Call) -> Read
     ensures { λ r. ⌜ r ≡ recordBy at (now (body .entry)) (Of c) ⌝ }
 {
     let size = body.len();
+    let next = at + SIZE_BYTES + size;
     let fixed = layout::fixed_bytes(c);
     // A record has all the arguments of its call.
     if size < fixed {
@@ -206,7 +207,7 @@ fn record_in(at: usize, body: &[u8], c: Call) -> Read
         text: text,
         ids: ids,
         buffer: buffer,
-        next: at + SIZE_BYTES + size,
+        next: next,
     })
 }
 

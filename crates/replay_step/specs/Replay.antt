@@ -6,22 +6,25 @@ use lib.ListN.{length, take, drop}
 use Rattle.prelude.specs.Parts.{part}
 use Rattle.idmap.specs.Good.{maxLines}
 use Rattle.idmap.specs.Show.{lineBytes}
-use Rattle.tables.specs.Tables.{State}
-use Rattle.tables.specs.Reply.{done}
+use Rattle.records.specs.declared.Kind.{Kind}
+use Rattle.records.specs.Records.{mapIn, linesOf}
+use Rattle.tables.specs.Tables.{State, namespaceAt}
+use Rattle.tables.specs.Reply.{done, bytes}
 use Rattle.hierarchy.specs.Lifted.{quick}
-use Rattle.calls.specs.Calls.{Step, answerBy}
+use Rattle.calls.specs.Calls.{Step, answerBy, answerOf}
 use Rattle.journal.specs.declared.read.Record.{Record}
 use Rattle.journal.specs.declared.read.Read.{Read}
 use Rattle.journal.specs.declared.read.Read.the-variants.{Found, End, Stopped}
-use Rattle.journal.specs.Reading.{idsAt}
+use Rattle.journal.specs.declared.layout.Lent.the-variants.{Buffer}
+use Rattle.journal.specs.Layout.{formOf}
+use Rattle.journal.specs.Reading.{idsAt, requestAt}
 
 -- the longest text of a read: the lines of a full map
 abbrev pub maxRead : ℕ
 maxRead = maxLines * lineBytes
 
 -- ---- the call of a record, in a journal l
--- a read is lent the first bytes of the buffer, as many as its own had, and no more than there are: those behind them stay.
--- `longest` of proofs/Longest.antt: a buffer of the longest text serves for any longer one
+-- a read is lent the first bytes of the buffer, as many as its own had and no more than there are; those behind them stay
 abbrev pub behind : Step → List ℕ → Step
 behind o rest = record { reply = o .reply; tables = o .tables; buffer = o .buffer ++ rest }
 
@@ -40,6 +43,20 @@ abbrev pub Unchanged : Read → List ℕ → List ℕ → Type 0
 Unchanged (Found r) entry exit = Unit {0}
 Unchanged End entry exit = exit ≡ entry
 Unchanged (Stopped at why) entry exit = exit ≡ entry
+
+-- ---- a buffer of the longest text serves for any longer one
+-- no map has more lines than are allowed: so it is after every list of calls
+abbrev pub FewLines : State → Type 0
+FewLines s = (k : Kind) (n : ℕ) → length (linesOf (mapIn k (namespaceAt s n))) ≤ maxLines
+
+-- a call is answered as with the whole buffer that its record says: no text is longer than maxRead, so it fits the one
+-- exactly where it fits the other. `same-answer` of proofs/Longest.antt proves it of every lent buffer of maxRead bytes
+pub record SameAnswer (s : State) (l : List ℕ) (r : Record) (buffer : List ℕ) : Type 0 where
+  pub reply : replayOf s l (Found r) buffer .reply ≡ quick answerOf s (requestAt l r) .reply
+  pub tables : replayOf s l (Found r) buffer .tables ≡ quick answerOf s (requestAt l r) .tables
+  -- and the bytes that a read gives are the same
+  pub text : formOf (r .call) .lent ≡ Buffer → (n : ℕ) → replayOf s l (Found r) buffer .reply ≡ bytes n
+      → take n (replayOf s l (Found r) buffer .buffer) ≡ take n (quick answerOf s (requestAt l r) .buffer)
 
 -- ---- not to be believed, only proved: what the code makes the call with
 abbrev pub Inside : Record → List ℕ → List ℕ → Type 0

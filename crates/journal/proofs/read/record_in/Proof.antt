@@ -6,6 +6,8 @@ use Rattle.journal.proofs.read.record_in.Tie as tie
 pub record-in-spec : {M : Type 1} → statement M
 record-in-spec =
     tie.close (tie.spec
+    (λ c. search records)  -- add-next
+    (λ c. search records)  -- add-next-2
     (λ c κs. search records)  -- fixed-bytes-requires
     (λ c. search records)  -- returns
     (λ c κs. search records)  -- form-of-requires
@@ -15,8 +17,6 @@ record-in-spec =
     (λ c κs. search records)  -- buffer-length-requires
     (λ c κs. search records)  -- text-bytes-requires
     (λ c κs. search records)  -- id-count-requires
-    (λ c. search records)  -- add-t17
-    (λ c. search records)  -- add-t18
+    (λ c. search records)  -- add-t14
     (λ c. search records)  -- add-t19
-    (λ c. search records)  -- add-t20
     (λ c. search records))  -- returns-3
