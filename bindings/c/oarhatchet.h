@@ -56,6 +56,69 @@ enum oarhatchet_errno {
     OARHATCHET_EUSERS = 87  /* level 33 asked for */
 };
 
+/*
+ * The journal of calls: docs/journal.md has the format. A journal is the version byte and then a record for each call.
+ */
+/* The first byte of a journal. */
+#define OARHATCHET_JOURNAL_VERSION 1
+/* The bytes of the longest record: a buffer of as many has room for any. */
+#define OARHATCHET_MAX_RECORD 65537
+/* The most names of a call, the caller among them, and the most other numbers. */
+#define OARHATCHET_MAX_NAMES 3
+#define OARHATCHET_MAX_NUMBERS 3
+/* The most IDs that the list of a record has. */
+#define OARHATCHET_MAX_IDS 16381
+/* The bytes of the longest text that a read gives. */
+#define OARHATCHET_MAX_READ 165
+/* The words that oarhatchet_replay writes. */
+#define OARHATCHET_RECORD_WORDS 12
+
+/* The call bytes. */
+enum oarhatchet_call {
+    OARHATCHET_CALL_FORK = 0x10,
+    OARHATCHET_CALL_CLONE = 0x11,
+    OARHATCHET_CALL_UNSHARE = 0x14,
+    OARHATCHET_CALL_SETNS = 0x17,
+    OARHATCHET_CALL_WRITE_UID_MAP = 0x20,
+    OARHATCHET_CALL_WRITE_GID_MAP = 0x21,
+    OARHATCHET_CALL_WRITE_SETGROUPS = 0x22,
+    OARHATCHET_CALL_READ_UID_MAP = 0x23,
+    OARHATCHET_CALL_READ_GID_MAP = 0x24,
+    OARHATCHET_CALL_READ_SETGROUPS = 0x25,
+    OARHATCHET_CALL_SETRESUID = 0x30,
+    OARHATCHET_CALL_SETRESGID = 0x31,
+    OARHATCHET_CALL_SETGROUPS = 0x32,
+    OARHATCHET_CALL_CAPSET = 0x33,
+    OARHATCHET_CALL_GETIDS = 0x34,
+    OARHATCHET_CALL_CAPABLE = 0x40,
+    OARHATCHET_CALL_TRANSLATE_UID_OUT = 0x41,
+    OARHATCHET_CALL_TRANSLATE_UID_BACK = 0x42,
+    OARHATCHET_CALL_TRANSLATE_GID_OUT = 0x43,
+    OARHATCHET_CALL_TRANSLATE_GID_BACK = 0x44
+};
+
+/* What stands at an offset of a journal where no call does: its end, or why the reading stops there. */
+enum oarhatchet_stop {
+    OARHATCHET_JOURNAL_END = 0,
+    OARHATCHET_STOP_VERSION = 1,      /* version missing or unknown */
+    OARHATCHET_STOP_CUT = 2,          /* record cut off */
+    OARHATCHET_STOP_SHORT = 3,        /* short record */
+    OARHATCHET_STOP_UNKNOWN_CALL = 4, /* unknown call byte */
+    OARHATCHET_STOP_LEFTOVER = 5      /* leftover bytes */
+};
+
+/* The words that oarhatchet_replay writes, by their places. */
+enum oarhatchet_word {
+    OARHATCHET_WORD_CALL = 0,      /* the call byte, or one of enum oarhatchet_stop */
+    OARHATCHET_WORD_NAMES = 1,     /* three places: the call's names in order, the caller first */
+    OARHATCHET_WORD_NUMBERS = 4,   /* three places: its other numbers in order; of a read the length of its buffer */
+    OARHATCHET_WORD_TAIL = 7,      /* the offset where these end, and its text or its list starts */
+    OARHATCHET_WORD_TEXT = 8,      /* the bytes of its text */
+    OARHATCHET_WORD_IDS = 9,       /* the IDs of its list */
+    OARHATCHET_WORD_NEXT = 10,     /* the offset of the next record */
+    OARHATCHET_WORD_NAMESPACE = 11 /* the namespace that a clone has made */
+};
+
 /* Answers OARHATCHET_TABLES, as the archive has it: a program may compare the two before its first call. */
 uint64_t oarhatchet_words(void);
 
@@ -185,6 +248,37 @@ int64_t oarhatchet_translate_gid_out(
     const uint64_t tables[OARHATCHET_TABLES], uint64_t caller, uint64_t target, uint32_t id);
 int64_t oarhatchet_translate_gid_back(
     const uint64_t tables[OARHATCHET_TABLES], uint64_t caller, uint64_t target, uint32_t id);
+
+/*
+ * Writes the record of the call that has this call byte to the buffer from the place `at` on, and answers how many
+ * bytes it has. The call's names, the caller first, and its other numbers stand in order in the two arrays, as
+ * docs/journal.md lists them; of a read `length` is the length of its buffer. What the call does not have is not
+ * looked at. No table is asked, so a call can be written before it is made.
+ * EINVAL: no call has the call byte, or the text or the list is too long for a record, or the length of a read's
+ * buffer is over 4294967295. ERANGE: the buffer has no room for the record at that place.
+ */
+int64_t oarhatchet_write_record(
+    uint8_t call, const uint64_t names[OARHATCHET_MAX_NAMES], const uint32_t numbers[OARHATCHET_MAX_NUMBERS],
+    const uint8_t *text, size_t text_length, const uint32_t *list, size_t count, uint64_t length, uint8_t *buffer,
+    size_t buffer_length, size_t at);
+
+/*
+ * Reads the record at the offset `at` of a journal and makes its call on the tables. At 0 it reads the version byte
+ * and the record after it. Answers as the call does; oarhatchet_getids answers the number of groups.
+ *
+ * Stores what stands there in the twelve words of enum oarhatchet_word, with 0 for all that a call does not have.
+ * The IDs of the call's list are put into list, the text of a read to the front of buffer, and own IDs into ids, as
+ * oarhatchet_getids stores them; a call that is refused has its words and its list too. A read is made with a buffer of
+ * OARHATCHET_MAX_READ bytes at most, which has room for every text.
+ *
+ * At the journal's end and at a stop no call is made: the answer is 0, only the words are written, and the word
+ * OARHATCHET_WORD_NEXT is the offset given at the end, and that of the bad record at a stop. So a loop goes on from
+ * OARHATCHET_WORD_NEXT while OARHATCHET_WORD_CALL is a call byte: each is over OARHATCHET_STOP_LEFTOVER.
+ */
+int64_t oarhatchet_replay(
+    uint64_t tables[OARHATCHET_TABLES], const uint8_t *journal, size_t length, size_t at,
+    uint64_t record[OARHATCHET_RECORD_WORDS], uint32_t list[OARHATCHET_MAX_IDS], uint8_t buffer[OARHATCHET_MAX_READ],
+    uint32_t ids[OARHATCHET_IDS]);
 
 #ifdef __cplusplus
 }

@@ -1,4 +1,4 @@
-/* Tests the header and the archive from C: scenarios of document 01, each call once, and refusals. */
+/* Tests the header and the archive from C: scenarios of document 01, each call once, refusals, and the journal. */
 #include "oarhatchet.h"
 
 #include <stdio.h>
@@ -277,6 +277,180 @@ static void names_that_name_nothing(void)
     CHECK((int64_t)space, 77);
 }
 
+/* The first journal of docs/journal.md: a clone, a write of the child's user map, and the read of that map. */
+static const uint8_t first_journal[64] = {
+    1,
+    0, 9, 0x11, 0, 0, 0, 0, 0, 0, 0, 1,
+    0, 0x1b, 0x20, 0, 0, 0, 0, 0, 0, 0, 1, 0, 0, 0, 0, 0, 0, 0, 2, '0', ' ', '1', '0', '0', '0', '0', ' ', '5', '\n',
+    0, 0x15, 0x23, 0, 0, 0, 0, 0, 0, 0, 1, 0, 0, 0, 0, 0, 0, 0, 2, 0, 0, 0, 0x28};
+
+static uint8_t journal[OARHATCHET_MAX_RECORD];
+
+/* Writes a record to the journal from a place on; its names and other numbers are given in order. */
+static int64_t write_record(
+    uint8_t call, uint64_t caller, uint64_t second, uint64_t third, uint32_t number, const char *text, uint64_t length,
+    size_t at)
+{
+    uint64_t names[OARHATCHET_MAX_NAMES] = {caller, second, third};
+    uint32_t numbers[OARHATCHET_MAX_NUMBERS] = {number, number + 1, number + 2};
+    uint32_t list[2] = {5, 70000};
+    return oarhatchet_write_record(
+        call, names, numbers, (const uint8_t *)text, strlen(text), list, 2, length, journal, sizeof journal, at);
+}
+
+static void records_are_the_journals_bytes(void)
+{
+    static const uint8_t groups[19] = {0, 0x11, 0x32, 0, 0, 0, 0, 0, 0, 0, 1, 0, 0, 0, 5, 0, 1, 0x11, 0x70};
+    static const uint8_t ids[23] = {
+        0, 0x15, 0x30, 0, 0, 0, 0, 0, 0, 0, 1, 0, 0, 0, 7, 0, 0, 0, 8, 0, 0, 0, 9};
+    static const uint8_t sets[27] = {
+        0, 0x19, 0x33, 0, 0, 0, 0, 0, 0, 0, 1, 0, 0, 0, 0, 0, 0, 0, 2, 1, 2, 3, 4, 5, 6, 7, 8};
+    static const uint8_t question[23] = {
+        0, 0x15, 0x41, 0, 0, 0, 0, 0, 0, 0, 1, 0, 0, 0, 0, 0, 0, 0, 0, 0, 0, 0xff, 0xff};
+
+    memset(journal, '.', sizeof journal);
+    journal[0] = OARHATCHET_JOURNAL_VERSION;
+    CHECK(write_record(OARHATCHET_CALL_CLONE, 1, 77, 77, 77, "none", 77, 1), 11);
+    CHECK(write_record(OARHATCHET_CALL_WRITE_UID_MAP, 1, 2, 77, 77, "0 10000 5\n", 77, 12), 29);
+    CHECK(write_record(OARHATCHET_CALL_READ_UID_MAP, 1, 2, 77, 77, "none", 40, 41), 23);
+    CHECK(memcmp(journal, first_journal, sizeof first_journal), 0);
+    CHECK(holds(journal + sizeof first_journal, sizeof journal - sizeof first_journal, ""), 1);
+
+    CHECK(write_record(OARHATCHET_CALL_SETGROUPS, 1, 77, 77, 77, "none", 77, 0), sizeof groups);
+    CHECK(memcmp(journal, groups, sizeof groups), 0);
+    CHECK(write_record(OARHATCHET_CALL_SETRESUID, 1, 77, 77, 7, "none", 77, 0), sizeof ids);
+    CHECK(memcmp(journal, ids, sizeof ids), 0);
+    CHECK(write_record(OARHATCHET_CALL_CAPSET, 1, 2, UINT64_C(0x102030405060708), 77, "none", 77, 0), sizeof sets);
+    CHECK(memcmp(journal, sets, sizeof sets), 0);
+    CHECK(write_record(OARHATCHET_CALL_TRANSLATE_UID_OUT, 1, 0, 77, 65535, "none", 77, 0), sizeof question);
+    CHECK(memcmp(journal, question, sizeof question), 0);
+}
+
+static void records_are_refused(void)
+{
+    static char text[65520];
+    size_t room = sizeof journal;
+
+    memset(journal, '.', sizeof journal);
+    memset(text, ' ', sizeof text - 1);
+    CHECK(write_record(0x12, 1, 0, 0, 0, "", 0, 0), -OARHATCHET_EINVAL);
+    CHECK(write_record(OARHATCHET_CALL_WRITE_GID_MAP, 1, 2, 0, 0, text, 0, 0), -OARHATCHET_EINVAL);
+    CHECK(write_record(OARHATCHET_CALL_READ_SETGROUPS, 1, 2, 0, 0, "", UINT64_C(1) << 32, 0), -OARHATCHET_EINVAL);
+    CHECK(write_record(OARHATCHET_CALL_FORK, 1, 0, 0, 0, "", 0, room - 10), -OARHATCHET_ERANGE);
+    CHECK(write_record(OARHATCHET_CALL_FORK, 1, 0, 0, 0, "", 0, SIZE_MAX), -OARHATCHET_ERANGE);
+    CHECK(holds(journal, sizeof journal, ""), 1);
+    CHECK(write_record(OARHATCHET_CALL_FORK, 1, 0, 0, 0, "", 0, room - 11), 11);
+    text[65518] = 0;
+    CHECK(write_record(OARHATCHET_CALL_WRITE_GID_MAP, 1, 2, 0, 0, text, 0, 0), OARHATCHET_MAX_RECORD);
+}
+
+/* The second journal of docs/journal.md: groups, own IDs, a translation, and a fork with a byte too many. */
+static const uint8_t second_journal[66] = {
+    1,
+    0, 0x11, 0x32, 0, 0, 0, 0, 0, 0, 0, 1, 0, 0, 0, 5, 0, 1, 0x11, 0x70,
+    0, 9, 0x34, 0, 0, 0, 0, 0, 0, 0, 1,
+    0, 0x15, 0x41, 0, 0, 0, 0, 0, 0, 0, 1, 0, 0, 0, 0, 0, 0, 0, 0, 0, 0, 0xff, 0xff,
+    0, 0x0a, 0x10, 0, 0, 0, 0, 0, 0, 0, 1, 0};
+
+static uint64_t record[OARHATCHET_RECORD_WORDS];
+static uint32_t list[OARHATCHET_MAX_IDS];
+static uint8_t text[OARHATCHET_MAX_READ];
+static uint32_t own[OARHATCHET_IDS];
+
+/* Makes the call at an offset of a journal. */
+static int64_t replay(const uint8_t *bytes, size_t length, size_t at)
+{
+    return oarhatchet_replay(tables, bytes, length, at, record, list, text, own);
+}
+
+/* Compares the words with twelve others, and counts one check. */
+static void check_words(int line, const uint64_t expected[OARHATCHET_RECORD_WORDS])
+{
+    size_t i;
+    for (i = 0; i < OARHATCHET_RECORD_WORDS; i++)
+        if (record[i] != expected[i]) {
+            fprintf(stderr, "test.c:%d: word %d is %llu\n", line, (int)i, (unsigned long long)record[i]);
+            exit(1);
+        }
+    checks++;
+}
+
+#define CHECK_WORDS(...) \
+    do { \
+        const uint64_t expected[OARHATCHET_RECORD_WORDS] = {__VA_ARGS__}; \
+        check_words(__LINE__, expected); \
+    } while (0)
+
+static void a_journal_is_replayed(void)
+{
+    size_t size = sizeof first_journal;
+
+    oarhatchet_initial(tables);
+    memset(text, '.', sizeof text);
+    CHECK(replay(first_journal, size, 0), 2);
+    CHECK_WORDS(OARHATCHET_CALL_CLONE, 1, 0, 0, 0, 0, 0, 12, 0, 0, 12, 1);
+    CHECK(replay(first_journal, size, 12), 0);
+    CHECK_WORDS(OARHATCHET_CALL_WRITE_UID_MAP, 1, 2, 0, 0, 0, 0, 31, 10, 0, 41, 0);
+    CHECK(holds(text, sizeof text, ""), 1);
+    CHECK(replay(first_journal, size, 41), LINE);
+    CHECK_WORDS(OARHATCHET_CALL_READ_UID_MAP, 1, 2, 0, 40, 0, 0, 64, 0, 0, 64, 0);
+    CHECK(holds(text, sizeof text, "         0      10000          5\n"), 1);
+    CHECK(replay(first_journal, size, 64), 0);
+    CHECK_WORDS(OARHATCHET_JOURNAL_END, 0, 0, 0, 0, 0, 0, 0, 0, 0, 64, 0);
+    CHECK(oarhatchet_translate_uid_out(tables, 1, 1, 4), 10004);
+}
+
+static void a_bad_record_stops(void)
+{
+    size_t i, size = sizeof second_journal;
+
+    oarhatchet_initial(tables);
+    memset(own, 0xff, sizeof own);
+    CHECK(replay(second_journal, size, 0), 0);
+    CHECK_WORDS(OARHATCHET_CALL_SETGROUPS, 1, 0, 0, 0, 0, 0, 12, 0, 2, 20, 0);
+    CHECK(list[0], 5);
+    CHECK(list[1], 70000);
+    CHECK(own[0], OARHATCHET_NO_ID);
+    CHECK(replay(second_journal, size, 20), 2);
+    CHECK_WORDS(OARHATCHET_CALL_GETIDS, 1, 0, 0, 0, 0, 0, 31, 0, 0, 31, 0);
+    for (i = 0; i < OARHATCHET_IDS; i++)
+        CHECK(own[i], i == 6 ? 5 : i == 7 ? 70000 : 0);
+    CHECK(replay(second_journal, size, 31), 65535);
+    CHECK_WORDS(OARHATCHET_CALL_TRANSLATE_UID_OUT, 1, 0, 0, 65535, 0, 0, 54, 0, 0, 54, 0);
+    memcpy(before, tables, sizeof tables);
+    CHECK(replay(second_journal, size, 54), 0);
+    CHECK_WORDS(OARHATCHET_STOP_LEFTOVER, 0, 0, 0, 0, 0, 0, 0, 0, 0, 54, 0);
+    CHECK(replay(second_journal, 65, 54), 0);
+    CHECK_WORDS(OARHATCHET_STOP_CUT, 0, 0, 0, 0, 0, 0, 0, 0, 0, 54, 0);
+    CHECK(replay(second_journal + 1, size - 1, 0), 0);
+    CHECK_WORDS(OARHATCHET_STOP_VERSION, 0, 0, 0, 0, 0, 0, 0, 0, 0, 0, 0);
+    CHECK(replay(first_journal, 2, 0), 0);
+    CHECK_WORDS(OARHATCHET_STOP_CUT, 0, 0, 0, 0, 0, 0, 0, 0, 0, 1, 0);
+    CHECK(memcmp(before, tables, sizeof tables), 0);
+}
+
+/* A call that is refused has its record, and its answer when it is made again. */
+static void a_refused_call_is_replayed(void)
+{
+    size_t end = 1;
+
+    journal[0] = OARHATCHET_JOURNAL_VERSION;
+    end += (size_t)write_record(OARHATCHET_CALL_CLONE, 9, 0, 0, 0, "", 0, end);
+    end += (size_t)write_record(OARHATCHET_CALL_READ_GID_MAP, 1, 1, 0, 0, "", LINE - 1, end);
+    end += (size_t)write_record(OARHATCHET_CALL_CAPSET, 1, UINT64_MAX, FULL, 0, "", 0, end);
+    oarhatchet_initial(tables);
+    CHECK(replay(journal, end, 0), -OARHATCHET_ESRCH);
+    CHECK_WORDS(OARHATCHET_CALL_CLONE, 9, 0, 0, 0, 0, 0, 12, 0, 0, 12, 0);
+    memset(text, '.', sizeof text);
+    CHECK(replay(journal, end, (size_t)record[OARHATCHET_WORD_NEXT]), -OARHATCHET_ERANGE);
+    CHECK_WORDS(OARHATCHET_CALL_READ_GID_MAP, 1, 1, 0, LINE - 1, 0, 0, 35, 0, 0, 35, 0);
+    CHECK(holds(text, sizeof text, ""), 1);
+    CHECK(replay(journal, end, (size_t)record[OARHATCHET_WORD_NEXT]), -OARHATCHET_EPERM);
+    CHECK_WORDS(OARHATCHET_CALL_CAPSET, 1, UINT64_MAX, FULL, 0, 0, 0, end, 0, 0, end, 0);
+    CHECK(replay(journal, end, SIZE_MAX), 0);
+    CHECK_WORDS(OARHATCHET_JOURNAL_END, 0, 0, 0, 0, 0, 0, 0, 0, 0, SIZE_MAX, 0);
+}
+
 int main(void)
 {
     CHECK((int64_t)oarhatchet_words(), OARHATCHET_TABLES);
@@ -291,6 +465,11 @@ int main(void)
     full_tables_refuse();
     own_ids_and_sets();
     names_that_name_nothing();
+    records_are_the_journals_bytes();
+    records_are_refused();
+    a_journal_is_replayed();
+    a_bad_record_stops();
+    a_refused_call_is_replayed();
     printf("c: %d checks passed\n", checks);
     return 0;
 }

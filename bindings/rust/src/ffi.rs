@@ -17,6 +17,43 @@ pub type Words = [u64; WORDS];
 /// What the own-ID question writes: six IDs, and a place for each group.
 pub const IDS: usize = 6 + MAX_GROUPS;
 
+/// The bytes of the longest record of a journal, the most IDs of one, and the bytes of the longest text of a read.
+pub const MAX_RECORD: usize = 65537;
+pub const MAX_IDS: usize = 16381;
+pub const MAX_READ: usize = 165;
+
+/// The words that tell what stands at an offset of a journal, and their places: what it is, the names and the other
+/// numbers of a call, where these end and its text starts, the bytes of that, the IDs of its list, an offset, and the
+/// namespace that it made.
+pub const RECORD_WORDS: usize = 12;
+pub const WORD_CALL: usize = 0;
+pub const WORD_NAMES: usize = 1;
+pub const WORD_NUMBERS: usize = 4;
+pub const WORD_TAIL: usize = 7;
+pub const WORD_TEXT: usize = 8;
+pub const WORD_IDS: usize = 9;
+pub const WORD_NEXT: usize = 10;
+pub const WORD_NAMESPACE: usize = 11;
+
+/// A call's record, before it is bytes: what the call does not have is not looked at.
+#[derive(Clone, Copy)]
+pub struct Arguments<'a> {
+    pub call: u8,
+    pub names: [u64; 3],
+    pub numbers: [u32; 3],
+    pub text: &'a [u8],
+    pub list: &'a [u32],
+    pub length: u64,
+}
+
+/// What the replay of a record writes beside the tables.
+pub struct Found {
+    pub record: [u64; RECORD_WORDS],
+    pub list: Box<[u32; MAX_IDS]>,
+    pub buffer: [u8; MAX_READ],
+    pub ids: [u32; IDS],
+}
+
 unsafe extern "C" {
     pub safe fn oarhatchet_words() -> u64;
     pub safe fn oarhatchet_initial(tables: &mut Words);
@@ -115,6 +152,30 @@ unsafe extern "C" {
     ) -> i64;
     fn oarhatchet_setgroups(tables: &mut Words, caller: u64, list: *const u32, count: usize)
         -> i64;
+
+    fn oarhatchet_write_record(
+        call: u8,
+        names: &[u64; 3],
+        numbers: &[u32; 3],
+        text: *const u8,
+        text_length: usize,
+        list: *const u32,
+        count: usize,
+        length: u64,
+        buffer: *mut u8,
+        buffer_length: usize,
+        at: usize,
+    ) -> i64;
+    fn oarhatchet_replay(
+        tables: &mut Words,
+        journal: *const u8,
+        length: usize,
+        at: usize,
+        record: &mut [u64; RECORD_WORDS],
+        list: &mut [u32; MAX_IDS],
+        buffer: &mut [u8; MAX_READ],
+        ids: &mut [u32; IDS],
+    ) -> i64;
 }
 
 /// A call that is lent a text.
@@ -159,4 +220,41 @@ pub fn read_setgroups(tables: &Words, caller: u64, process: u64, buffer: &mut [u
 pub fn setgroups(tables: &mut Words, caller: u64, list: &[u32]) -> i64 {
     // SAFETY: the pointer is valid for reads of the count, and nothing else borrows the tables.
     unsafe { oarhatchet_setgroups(tables, caller, list.as_ptr(), list.len()) }
+}
+
+/// Writes a record to the front of the buffer.
+pub fn write_record(record: &Arguments<'_>, buffer: &mut [u8]) -> i64 {
+    // SAFETY: each pointer is valid for its length, the buffer's for writes too, and the buffer is apart from the rest.
+    unsafe {
+        oarhatchet_write_record(
+            record.call,
+            &record.names,
+            &record.numbers,
+            record.text.as_ptr(),
+            record.text.len(),
+            record.list.as_ptr(),
+            record.list.len(),
+            record.length,
+            buffer.as_mut_ptr(),
+            buffer.len(),
+            0,
+        )
+    }
+}
+
+/// Makes the call of the record at an offset of a journal.
+pub fn replay(tables: &mut Words, journal: &[u8], at: usize, found: &mut Found) -> i64 {
+    // SAFETY: the pointer is valid for reads of the length, and nothing else borrows the tables and what is found.
+    unsafe {
+        oarhatchet_replay(
+            tables,
+            journal.as_ptr(),
+            journal.len(),
+            at,
+            &mut found.record,
+            &mut found.list,
+            &mut found.buffer,
+            &mut found.ids,
+        )
+    }
 }

@@ -28,12 +28,15 @@
 //! Processes are numbered 1 to 128 and namespaces 0 to 63; a new one takes the lowest unused number. A kernel ID is
 //! an ID of namespace 0, which is the initial one. The pages in `docs/calls` say in full what each call answers and
 //! when it refuses.
+//!
+//! The module [`journal`] keeps the calls as bytes, and makes them again.
 #![deny(unsafe_code)]
 #![warn(missing_docs)]
 
 mod errno;
 mod ffi;
 mod groups;
+pub mod journal;
 mod tables;
 
 pub use errno::Errno;

@@ -38,7 +38,11 @@ impl Tables {
     /// # Ok::<(), oarhatchet::Errno>(())
     /// ```
     pub fn new() -> Tables {
-        assert_eq!(ffi::oarhatchet_words(), ffi::WORDS as u64, "the archive's tables are of another size");
+        assert_eq!(
+            ffi::oarhatchet_words(),
+            ffi::WORDS as u64,
+            "the archive's tables are of another size"
+        );
         let mut words = boxed(vec![0; ffi::WORDS]);
         ffi::oarhatchet_initial(&mut words);
         Tables { words }
@@ -337,12 +341,7 @@ impl Tables {
     pub fn getids(&self, caller: u64) -> Result<OwnIds, Errno> {
         let mut ids = [0; ffi::IDS];
         let count = length(ffi::oarhatchet_getids(&self.words, caller, &mut ids))?;
-        let [u0, u1, u2, g0, g1, g2, places @ ..] = ids;
-        Ok(OwnIds {
-            users: [u0, u1, u2],
-            groups: [g0, g1, g2],
-            supplementary: Groups::first(count, places),
-        })
+        Ok(own_ids(count, ids))
     }
 
     /// Translates an ID between a namespace and the initial one; `None` where it is not mapped, which is no refusal.
@@ -371,8 +370,12 @@ impl Tables {
             (Kind::Group, Way::Out) => ffi::oarhatchet_translate_gid_out,
             (Kind::Group, Way::Back) => ffi::oarhatchet_translate_gid_back,
         };
-        let answer = result_of(call(&self.words, caller, namespace, id))?;
-        Ok(u32::try_from(answer).ok().filter(|id| *id != crate::NO_ID))
+        result_of(call(&self.words, caller, namespace, id)).map(mapped)
+    }
+
+    /// The array, for the calls that a journal makes.
+    pub(crate) fn words(&mut self) -> &mut Words {
+        &mut self.words
     }
 }
 
@@ -408,6 +411,21 @@ fn done(code: i64) -> Result<(), Errno> {
 /// The result of a call whose answer counts bytes or places of what is lent to it.
 fn length(code: i64) -> Result<usize, Errno> {
     result_of(code).map(|answer| answer as usize)
+}
+
+/// The own IDs that the archive writes, with so many groups.
+pub(crate) fn own_ids(count: usize, ids: [u32; ffi::IDS]) -> OwnIds {
+    let [u0, u1, u2, g0, g1, g2, places @ ..] = ids;
+    OwnIds {
+        users: [u0, u1, u2],
+        groups: [g0, g1, g2],
+        supplementary: Groups::first(count, places),
+    }
+}
+
+/// The ID that a translation answers, if there is one.
+pub(crate) fn mapped(answer: u64) -> Option<u32> {
+    u32::try_from(answer).ok().filter(|id| *id != crate::NO_ID)
 }
 
 /// Reads with a longer buffer until the text fits.

@@ -1,5 +1,6 @@
-// Every call for programs in other languages: bindings/c/oarhatchet.h has the C names and types. Tables cross as one
-// pointer to the lent array, texts, lists and buffers as pointer and length, answers as numbers.
+// Every call, and the journal of calls, for programs in other languages: bindings/c/oarhatchet.h has the C names and
+// types. Tables cross as one pointer to the lent array, texts, lists and buffers as pointer and length, answers as
+// numbers.
 ghost use Prim.Native.Nat.{_≤_};
 ghost use mathlib.Core.Path.{_≡_};
 ghost use lib.ListN.{length};
@@ -24,6 +25,10 @@ use tables::Tables;
 use tables::answer::Answer;
 use tables::answer::Errno;
 
+mod record;
+mod replay;
+mod words;
+
 // The number of a refusal.
 fn number(e: Errno) -> u64
     ensures { λ r. ⌜ r ≡ numberOf e ⌝ }
@@ -43,14 +48,14 @@ fn number(e: Errno) -> u64
 const MINUS_ONE: u64 = 18446744073709551615;
 
 // The number of a refusal, negated.
-fn refusal(e: Errno) -> u64
+pub(crate) fn refusal(e: Errno) -> u64
     ensures { λ r. ⌜ r ≡ negated (numberOf e) ⌝ }
 {
     MINUS_ONE - (number(e) - 1)
 }
 
 // The number of an answer.
-fn code(a: Answer) -> u64
+pub(crate) fn code(a: Answer) -> u64
     ensures { λ r. ⌜ r ≡ codeOf (replyOf a) ⌝ }
 {
     match a {
@@ -90,7 +95,7 @@ pub extern "C" fn oarhatchet_fork(t: &mut Tables, caller: u64) -> u64
 }
 
 // The number of a new namespace where there is one, else what was there.
-fn space(a: Answer, old: u64) -> u64
+pub(crate) fn space(a: Answer, old: u64) -> u64
     ensures { λ r. ⌜ r ≡ spaceAfter (replyOf a) old ⌝ }
 {
     match a {
@@ -256,9 +261,9 @@ pub extern "C" fn oarhatchet_capset(
 }
 
 // The words of own IDs: three user IDs, three group IDs, and as many places as there may be groups.
-const OWN_WORDS: usize = 6 + MAX_GROUPS;
+pub(crate) const OWN_WORDS: usize = 6 + MAX_GROUPS;
 
-fn row(own: OwnIds) -> [u32; OWN_WORDS]
+pub(crate) fn row(own: OwnIds) -> [u32; OWN_WORDS]
     ensures { λ r. ⌜ r ≡ idsRow own ⌝ }
 {
     let users = own.users;
@@ -292,7 +297,7 @@ fn row(own: OwnIds) -> [u32; OWN_WORDS]
 }
 
 // Stores words at the start of a buffer that has room for them.
-fn store(buffer: &mut [u32], words: &[u32])
+pub(crate) fn store(buffer: &mut [u32], words: &[u32])
     requires { ⌜ length (now words) ≤ length (now buffer) ⌝ }
     ensures { λ r. ⌜ now (buffer .exit) ≡ putAt (now (buffer .entry)) 0 (now (words .entry)) ⌝ }
 {

@@ -95,14 +95,14 @@ fn done(_: ()) -> Answer {
     Answer::Done
 }
 
-fn kind_of(kind: reference::Kind) -> Kind {
+pub fn kind_of(kind: reference::Kind) -> Kind {
     match kind {
         reference::Kind::User => Kind::User,
         reference::Kind::Group => Kind::Group,
     }
 }
 
-fn way_of(direction: Direction) -> Way {
+pub fn way_of(direction: Direction) -> Way {
     match direction {
         Direction::Out => Way::Out,
         Direction::Back => Way::Back,
