@@ -2,20 +2,25 @@
 use Prim.Native.Nat.{ℕ}
 use mathlib.Core.Path.{_≡_, refl, sym, ap, _∙_}
 use mathlib.Core.List.{List, [], _∷_, _++_}
+use lib.ListN.{length}
 use Rattle.tables.specs.Tables.{State, tablesOf, initialTables}
 use Rattle.tables.specs.Reply.{Reply}
 use Rattle.hierarchy.specs.Walks.{Translation}
 use Rattle.hierarchy.specs.Lifted.{byLiftedMaps}
 use Rattle.calls.specs.Calls.{Request, Step, callReply}
-use Rattle.journal.specs.Reading.{requestAt}
+use Rattle.journal.specs.declared.read.Record.{Record}
+use Rattle.journal.specs.declared.read.Read.the-variants.{Found}
+use Rattle.journal.specs.Reading.{readAt, requestAt}
+use Rattle.replay_step.specs.Replay.{maxRead, replayOf}
+use Rattle.exports.specs.Replay.{stepAt}
 use Rattle.claims.specs.Translation.{byLevels}
 use Rattle.claims.specs.History.{Entry, entryOf, stepOf, runFrom, historyFrom, run, history, Fits, AllFit}
-use Rattle.claims.specs.Execution.{Execution, started, answered, exported, replayed, requestsOf, Executed}
+use Rattle.claims.specs.Execution.{Execution, started, answered, exported, replayed, replayed-export, requestsOf, Executed}
 use Rattle.claims.proofs.Theorem.{theorem}
 use Rattle.claims.proofs.Bounds.{bounds}
 use Rattle.claims.proofs.AsDocument.{as-document}
 use Rattle.claims.proofs.Exported.{exported-step}
-use Rattle.claims.proofs.RecordCalls.{read-fits, reply-made, tables-made}
+use Rattle.claims.proofs.RecordCalls.{read-fits, reply-replayed, tables-replayed}
 
 -- ---- one call more at the end of a list
 module _ (by : State → Translation) (r : Request) where
@@ -56,6 +61,17 @@ link a b after h r reply c f o =
       fit = fits-more rs r (c .fit) f;
     }
 
+-- one record more of a journal
+record-link : (a b : List ℕ) (h : List Entry) (r : Record) (reply : Reply) → Chain a h → (l lent : List ℕ) (at : ℕ) → readAt l at ≡ Found r
+    → length lent ≡ maxRead → reply ≡ replayOf (tablesOf a) l (readAt l at) lent .reply → tablesOf b ≡ replayOf (tablesOf a) l (readAt l at) lent .tables
+    → Chain b (record { request = requestAt l r; reply = reply; buffer = stepOf byLiftedMaps (tablesOf a) (requestAt l r) .buffer } ∷ h)
+record-link a b h r reply c l lent at found full e t =
+    let q = requestAt l r in
+    let reply-is = e ∙ reply-replayed l a lent at (requestsOf h) r (c .tables) (c .fit) found full in
+    let tables-are = t ∙ tables-replayed l a lent at (requestsOf h) r (c .tables) (c .fit) found full in
+    let after = stepOf byLiftedMaps (tablesOf a) q .buffer in
+    link a b after h q reply c (read-fits l at r found) (λ i. record { reply = reply-is i; tables = tables-are i; buffer = after })
+
 chain : (a : List ℕ) (h : List Entry) → Execution a h → Chain a h
 unfolding requestsOf runFrom historyFrom AllFit
 chain a h (started e) = record { tables = e; told = refl; fit = tt }
@@ -64,12 +80,9 @@ chain b h (exported {a = a} {after = after} {h = g} {r = r} x f code p) =
     let n = exported-step code a b (r .buffer) after (r .call) (r .text) (r .list) p in
     link a b after g r _ (chain a g x) f (λ i. record { reply = stepOf byLiftedMaps (tablesOf a) r .reply; tables = n .tables i; buffer = n .buffer i })
 chain b h (replayed {a = a} {after = after} {h = g} {r = r} {response = response} x l lent at found full p) =
-    let c = chain a g x in
-    let rs = requestsOf g in
-    let e = reply-made l a b after lent at rs r response (c .tables) (c .fit) found full p in
-    let t = tables-made l a b after lent at rs r response (c .tables) (c .fit) found full p in
-    let after′ = stepOf byLiftedMaps (tablesOf a) (requestAt l r) .buffer in
-    link a b after′ g (requestAt l r) (callReply response) c (read-fits l at r found) (λ i. record { reply = e i; tables = t i; buffer = after′ })
+    record-link a b g r (callReply response) (chain a g x) l lent at found full (ap (λ (s : Step). s .reply) (p .outcome)) (ap (λ (s : Step). s .tables) (p .outcome))
+chain b h (replayed-export {a = a} {after = after} {h = g} {r = r} x l lent at code found full p) =
+    record-link a b g r (stepAt a l at lent .reply) (chain a g x) l lent at found full refl (p .tables)
 
 pub executes : (a : List ℕ) (h : List Entry) → Execution a h → Executed a h
 executes a h x =

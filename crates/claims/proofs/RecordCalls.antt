@@ -13,10 +13,9 @@ use Rattle.records.specs.declared.MapState.the-variants.{Unwritten, Written}
 use Rattle.records.specs.Records.{mapIn, linesOf}
 use Rattle.tables.specs.Tables.{State, tablesOf, namespaceAt}
 use Rattle.hierarchy.specs.Lifted.{byLiftedMaps}
-use Rattle.calls.specs.declared.Response.{Response}
 use Rattle.calls.specs.declared.Call.{Call}
 use Rattle.calls.specs.declared.Call.the-variants.{Fork, Clone, Unshare, Setns, WriteMap, WriteSetgroups, ReadMap, ReadSetgroups, SetIds, SetGroups, Capable, Drop, OwnIdsOf, Translate}
-use Rattle.calls.specs.Calls.{Request, Step, callReply, CallPromise}
+use Rattle.calls.specs.Calls.{Request, Step}
 use Rattle.journal.specs.Numbers.{numberAt}
 use Rattle.journal.specs.Layout.{formOf, callBy}
 use Rattle.journal.specs.declared.read.Record.{Record}
@@ -25,7 +24,7 @@ use Rattle.journal.specs.declared.read.Read.the-variants.{Found, End, Stopped}
 use Rattle.journal.specs.Reading.{Reading, namesIn, numbersIn, readAt, requestAt, goOn, readFrom}
 use Rattle.journal.proofs.BigEndian.{id-below}
 use Rattle.journal.proofs.Inside.{found-from, found-at}
-use Rattle.replay_step.specs.Replay.{maxRead, replayOf, FewLines}
+use Rattle.replay_step.specs.Replay.{maxRead, replayOf, FewLines, SameAnswer}
 use Rattle.replay_step.proofs.Longest.{same-answer}
 use Rattle.claims.specs.Translation.{byLevels}
 use Rattle.claims.specs.History.{stepOf, run, AllSmall, CallFits, Fits, AllFit}
@@ -82,29 +81,31 @@ few-by (Written c) m e h = let k = h c e in omega (arith, k)
 few-lines : (rs : List Request) → Bounds rs → FewLines (run rs)
 few-lines rs b k n = let m = mapIn k (namespaceAt (run rs) n) in few-by (m .state) m refl (λ c e. b .line-count k n c e)
 
--- ---- the step that replays it
-module _ (l a b after lent : List ℕ) (at : ℕ) (rs : List Request) (r : Record) (response : Response) (are : tablesOf a ≡ run rs) (fit : AllFit rs)
-    (found : readAt l at ≡ Found r) (full : length lent ≡ maxRead) (p : CallPromise response a b after (replayOf (tablesOf a) l (readAt l at) lent)) where
+-- ---- the step that replays it, on an array a that calls have left
+module _ (l a lent : List ℕ) (at : ℕ) (rs : List Request) (r : Record) (are : tablesOf a ≡ run rs) (fit : AllFit rs) (found : readAt l at ≡ Found r)
+    (full : length lent ≡ maxRead) where
   abbrev q : Request
   q = requestAt l r
 
-  few : FewLines (tablesOf a)
-  few = rw are (few-lines rs (bounds rs fit))
+  same : SameAnswer (tablesOf a) l r lent
+  same = same-answer (tablesOf a) l (rw are (few-lines rs (bounds rs fit))) lent full r
 
   document : stepOf byLiftedMaps (tablesOf a) q ≡ stepOf byLevels (run rs) q
   document = ap (λ (s : State). stepOf byLiftedMaps s q) are ∙ as-document rs fit .step q
 
-  made : _≡_ {A = Step} (record { reply = callReply response; tables = tablesOf b; buffer = after }) (replayOf (tablesOf a) l (Found r) lent)
-  made = p .outcome ∙ ap (λ (x : Read). replayOf (tablesOf a) l x lent) found
+  here : replayOf (tablesOf a) l (readAt l at) lent ≡ replayOf (tablesOf a) l (Found r) lent
+  here = ap (λ (x : Read). replayOf (tablesOf a) l x lent) found
 
-  pub reply-made : callReply response ≡ stepOf byLiftedMaps (tablesOf a) q .reply
-  reply-made = ap (λ (s : Step). s .reply) made ∙ same-answer (tablesOf a) l few lent full r .reply
+  -- its reply and its tables are those of the request
+  pub reply-replayed : replayOf (tablesOf a) l (readAt l at) lent .reply ≡ stepOf byLiftedMaps (tablesOf a) q .reply
+  reply-replayed = ap (λ (s : Step). s .reply) here ∙ same .reply
 
-  pub tables-made : tablesOf b ≡ stepOf byLiftedMaps (tablesOf a) q .tables
-  tables-made = ap (λ (s : Step). s .tables) made ∙ same-answer (tablesOf a) l few lent full r .tables
+  pub tables-replayed : replayOf (tablesOf a) l (readAt l at) lent .tables ≡ stepOf byLiftedMaps (tablesOf a) q .tables
+  tables-replayed = ap (λ (s : Step). s .tables) here ∙ same .tables
 
-  pub reply-is : callReply response ≡ stepOf byLevels (run rs) q .reply
-  reply-is = reply-made ∙ ap (λ (s : Step). s .reply) document
+  -- and document 01's
+  pub reply-document : replayOf (tablesOf a) l (readAt l at) lent .reply ≡ stepOf byLevels (run rs) q .reply
+  reply-document = reply-replayed ∙ ap (λ (s : Step). s .reply) document
 
-  pub tables-are : tablesOf b ≡ stepOf byLevels (run rs) q .tables
-  tables-are = tables-made ∙ ap (λ (s : Step). s .tables) document
+  pub tables-document : replayOf (tablesOf a) l (readAt l at) lent .tables ≡ stepOf byLevels (run rs) q .tables
+  tables-document = tables-replayed ∙ ap (λ (s : Step). s .tables) document

@@ -7,7 +7,7 @@ use lib.ListN.{length}
 use Rattle.tables.specs.Tables.{tablesOf, initialTables}
 use Rattle.tables.specs.Reply.{Reply}
 use Rattle.calls.specs.declared.Response.{Response}
-use Rattle.calls.specs.Calls.{Request, callReply, CallPromise}
+use Rattle.calls.specs.Calls.{Request, callReply, CallPromise, Step}
 use Rattle.journal.specs.declared.read.Record.{Record}
 use Rattle.journal.specs.declared.read.Read.{Read}
 use Rattle.journal.specs.declared.read.Read.the-variants.{Found, End, Stopped}
@@ -19,7 +19,7 @@ use Rattle.claims.specs.History.{Entry, runFrom, historyFrom, run, histo
 use Rattle.claims.specs.Replaying.{Replayed, Replay, began, stepped, IsRun}
 use Rattle.claims.proofs.Theorem.{theorem}
 use Rattle.claims.proofs.Bounds.{bounds}
-use Rattle.claims.proofs.RecordCalls.{read-fits, from-fits, reply-is, tables-are}
+use Rattle.claims.proofs.RecordCalls.{read-fits, from-fits, reply-document, tables-document}
 use Rattle.claims.proofs.Executes.{run-more, history-more, fits-more}
 
 pub replayed : (l : List ℕ) → Replayed l
@@ -55,9 +55,9 @@ module _ (l a b after lent : List ℕ) (at : ℕ) (rs : List Request) (replies :
   link-by (suc m) e =
       let i = found-inside l at r found in
       record {
-        tables = tables-are l a b after lent at rs r response (c .tables) (c .fit) found full p ∙ sym (run-more byLevels q initialTables rs);
+        tables = ap (λ (s : Step). s .tables) (p .outcome) ∙ tables-document l a lent at rs r (c .tables) (c .fit) found full ∙ sym (run-more byLevels q initialTables rs);
         told =
-            (λ i. reply-is l a b after lent at rs r response (c .tables) (c .fit) found full p i ∷ c .told i) ∙ sym (ap (λ (h : List Entry). map (λ (e : Entry). e .reply) h) (history-more byLevels q initialTables [] rs));
+            (λ i. (ap (λ (s : Step). s .reply) (p .outcome) ∙ reply-document l a lent at rs r (c .tables) (c .fit) found full) i ∷ c .told i) ∙ sym (ap (λ (h : List Entry). map (λ (e : Entry). e .reply) h) (history-more byLevels q initialTables [] rs));
         fit = fits-more rs q (c .fit) (read-fits l at r found);
         n = m;
         enough = omega (arith, c .enough, e, i .next-past);

@@ -23,6 +23,7 @@ use Rattle.journal.specs.declared.read.Read.the-variants.{Found}
 use Rattle.journal.specs.Reading.{readAt, requestAt}
 use Rattle.replay_step.specs.Replay.{maxRead, replayOf}
 use Rattle.exports.specs.Codes.{codeOf, Coded, CodedRead, ownWidth, CodedIds}
+use Rattle.exports.specs.Replay.{stepAt, CodedStep}
 use Rattle.claims.specs.History.{Entry, stepOf, run, history, Fits}
 use Rattle.claims.specs.Holds.{Holds}
 use Rattle.claims.specs.Bounds.{Bounds}
@@ -97,6 +98,14 @@ pub data Execution : List ℕ → List Entry → Type 0 where
       → Execution b (record {
         request = requestAt l r;
         reply = callReply response;
+        buffer = stepOf byLiftedMaps (tablesOf a) (requestAt l r) .buffer;
+      } ∷ h)
+  -- the same through `oarhatchet_replay`, whose number is that of this reply
+  replayed-export : {a b after : List ℕ} {h : List Entry} {r : Record} → Execution a h → (l lent : List ℕ) (at code : ℕ)
+      → readAt l at ≡ Found r → length lent ≡ maxRead → CodedStep code a b after (stepAt a l at lent)
+      → Execution b (record {
+        request = requestAt l r;
+        reply = stepAt a l at lent .reply;
         buffer = stepOf byLiftedMaps (tablesOf a) (requestAt l r) .buffer;
       } ∷ h)
 

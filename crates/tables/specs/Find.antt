@@ -11,7 +11,7 @@ use Rattle.tables.specs.declared.find.Free.{Free}
 use Rattle.tables.specs.declared.find.Free.the-variants.{Place, Full}
 use Rattle.tables.specs.Tables.{State, processAt, namespaceAt}
 
--- document 01: processes are freeAs from 1, namespaces from 0: the number of what stands in place i
+-- document 01: processes are numbered from 1, namespaces from 0: the number of what stands in place i
 abbrev pub processNumber : ℕ → ℕ
 processNumber i = suc i
 
