@@ -1,6 +1,6 @@
 -- What a host has and sees that keeps its tables by this code alone, call after call, through the entry point, through
--- exported functions or by replaying journals: document 01's run of these calls. `executes` of proofs/Executes.antt proves it. Assumes
--- nothing.
+-- exported functions or by replaying journals: document 01's run of these calls. `executes` of proofs/Executes.antt
+-- proves it. Assumes nothing.
 use Prim.Native.Nat.{ℕ, _-_}
 use mathlib.Core.Path.{_≡_}
 use mathlib.Core.Bool.{true, cond}
@@ -91,8 +91,8 @@ pub data Execution : List ℕ → List Entry → Type 0 where
   exported : {a b after : List ℕ} {h : List Entry} {r : Request} → Execution a h → Fits r → (code : ℕ)
       → ExportPromise code a b (r .buffer) after (r .call) (r .text) (r .list)
       → Execution b (record { request = r; reply = stepOf byLiftedMaps (tablesOf a) r .reply; buffer = after } ∷ h)
-  -- the call of a record of a journal l, through `replay_step::step`, with what it promises of the buffer lent to it. The
-  -- entry has the buffer that the record says, of which the bytes read are the lent one's (`SameAnswer`)
+  -- the call of a record of a journal l, through `replay_step::step`, with what it promises of the buffer lent to it.
+  -- The entry has the buffer that the record says, of which the bytes read are the lent one's (`SameAnswer`)
   replayed : {a b after : List ℕ} {h : List Entry} {r : Record} {response : Response} → Execution a h → (l lent : List ℕ) (at : ℕ)
       → readAt l at ≡ Found r → length lent ≡ maxRead → CallPromise response a b after (replayOf (tablesOf a) l (readAt l at) lent)
       → Execution b (record {

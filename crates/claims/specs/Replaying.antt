@@ -21,13 +21,13 @@ pub record Replayed (l : List ℕ) : Type 0 where
   pub all-holds : Holds (readJournal l .calls)
   pub bounds : Bounds (readJournal l .calls)
 
--- ---- a loop over `replay_step::step`
--- the array and the offset that it has come to in the journal l, the calls made, oldest first, and their answers, newest
--- first
+-- ---- a loop over `replay_step::step` the array and the offset that it has come to in the journal l, the calls made,
+-- oldest first, and their answers, newest first
 pub data Replay (l : List ℕ) : List ℕ → ℕ → List Request → List Reply → Type 0 where
   -- the first array is one that `tables::initial::initial` leaves, and the first offset is 0
   began : {a : List ℕ} → tablesOf a ≡ initialTables → Replay l a 0 [] []
-  -- a step that found a record, with what it promises of the buffer lent to it; the next offset is that of the next record
+  -- a step that found a record, with what it promises of the buffer lent to it; the next offset is that of the next
+  -- record
   stepped : {a b after : List ℕ} {at : ℕ} {rs : List Request} {replies : List Reply} {r : Record} {response : Response} → Replay l a at rs replies
       → readAt l at ≡ Found r → (lent : List ℕ) → length lent ≡ maxRead → CallPromise response a b after (replayOf (tablesOf a) l (readAt l at) lent)
       → Replay l b (r .next) (rs ++ (requestAt l r ∷ [])) (callReply response ∷ replies)

@@ -1,10 +1,9 @@
 -- An exported step of a journal is the step's. Assumes nothing.
-use Prim.Native.Nat.{ℕ, zero, suc, _+_, _-_}
+use Prim.Native.Nat.{ℕ, zero, suc, _-_}
 use mathlib.Core.Path.{_≡_, refl, sym, ap, _∙_}
-use mathlib.Core.Bool.{true}
 use mathlib.Core.List.{List, [], _∷_, _++_}
 use native.Mathlib.Omega.{arith}
-use lib.ListN.{length, getD, take, drop, replicate}
+use lib.ListN.{length, getD, take, replicate}
 use borrow.Author.Needs.{needs}
 use Rattle.prelude.specs.Parts.{putAt}
 use Rattle.prelude.specs.Lists.{tab}

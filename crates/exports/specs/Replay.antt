@@ -57,8 +57,8 @@ readWords (Stopped offset why) at namespace = plainWords (stopNumber why) offset
 abbrev pub stepAt : List ℕ → List ℕ → ℕ → List ℕ → Step
 stepAt words journal at buffer = replayOf (tablesOf words) journal (readAt journal at) buffer
 
--- what the exported step promises: the number of its answer, the tables, the buffer, and that a refusal leaves every word
--- of the tables as it was
+-- what the exported step promises: the number of its answer, the tables, the buffer, and that a refusal leaves every
+-- word of the tables as it was
 pub record CodedStep (code : ℕ) (entry exit after : List ℕ) (o : Step) : Type 0 where
   pub answer : code ≡ codeOf (o .reply)
   pub tables : tablesOf exit ≡ o .tables

@@ -59,9 +59,10 @@ fn put_own(r: Response, ids: &mut [u32; OWN_WORDS])
     }
 }
 
-// Reads the record at an offset of a journal, makes its call, and stores what stands there as words: 0 at the journal's
-// end, else the call byte or the number of a stop, and so on. At 0 the version byte is read, and the record after it. The
-// IDs of the call's list, the text of a read and own IDs are put into what is lent for them.
+// Reads the record at an offset of a journal, makes its call, and stores what stands there as words. At 0 the version
+// byte is read, and the record after it. The IDs of the call's list, the text of a read and own IDs are put into what
+// is lent for them. Ruled out, for instance: the offset asked for in place of the bad record's; a call's arguments in
+// another order than the journal has them.
 #[no_mangle]
 pub extern "C" fn oarhatchet_replay(
     t: &mut Tables,

@@ -15,8 +15,8 @@ use Rattle.journal.specs.declared.write.Written.the-variants.{Length, Re
 use Rattle.journal.specs.Numbers.{bigEndian, allBigEndian}
 use Rattle.journal.specs.Layout.{version, sizeBytes, maxSize, nameBytes, numberBytes, byteOf, formOf, namesOf, numbersOf}
 
--- what is lent runs to the record's end: a text byte by byte, a list as numbers. Of a buffer only the length stands in the
--- record, among the call's numbers
+-- what is lent runs to the record's end: a text byte by byte, a list as numbers. Of a buffer only the length stands in
+-- the record, among the call's numbers
 abbrev pub tailOf : Lent → List ℕ → List ℕ → List ℕ
 tailOf Nothing text list = []
 tailOf Text text list = text
@@ -40,8 +40,9 @@ module _ (c : Call) (text list : List ℕ) (n : ℕ) where
   unfoldable pub recordOf : List ℕ
   recordOf = bigEndian sizeBytes (length bodyOf) ++ bodyOf
 
-  -- what the writer answers, with a buffer lent to write to from a place on: 22 for a call whose length field would pass
-  -- 65,535 or whose buffer's length needs over four bytes, then 34 for a short buffer, else how many bytes the record has
+  -- what the writer answers, with a buffer lent to write to from a place on: 22 for a call whose length field would
+  -- pass 65,535 or whose buffer's length needs over four bytes, then 34 for a short buffer, else how many bytes the
+  -- record has
   unfoldable pub writeOf : List ℕ → ℕ → Written
   writeOf buffer at =
       cond (ltb maxSize (length bodyOf)) (Refused EINVAL)

@@ -102,8 +102,8 @@ formOf (Translate k w c n x) = formBy 2 1 Nothing
 abbrev pub fixedBytes : Form → ℕ
 fixedBytes f = 1 + f .names * nameBytes + f .numbers * numberBytes
 
--- ---- the arguments of a call: its names and capability sets in order, the caller first; and its other numbers in order,
--- where a read has its buffer's length n
+-- ---- the arguments of a call: its names and capability sets in order, the caller first; and its other numbers in
+-- order, where a read has its buffer's length n
 unfoldable pub namesOf : Call → List ℕ
 namesOf (Fork c) = c ∷ []
 namesOf (Clone c) = c ∷ []

@@ -20,9 +20,8 @@ use Rattle.journal.specs.declared.read.Read.the-variants.{Found, End, St
 use Rattle.journal.specs.Numbers.{numberAt, numbersAt}
 use Rattle.journal.specs.Layout.{version, sizeBytes, nameBytes, numberBytes, templateOf, formOf, fixedBytes, callBy}
 
--- ---- a record
--- whether bytes are left after its arguments: after those of a call that has no text and no list any, in a list those that
--- are no whole ID
+-- ---- a record whether bytes are left after its arguments: after those of a call that has no text and no list any, in
+-- a list those that are no whole ID
 abbrev pub leftover : Lent → ℕ → Bool
 leftover Nothing rest = ltb 0 rest
 leftover Text rest = false

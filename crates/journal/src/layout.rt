@@ -124,8 +124,8 @@ pub fn template_of(byte: u8) -> Template
     }
 }
 
-// What is lent beside a call: nothing, a text or a list, which run to the record's end, or a buffer, whose length is the
-// record's last number.
+// What is lent beside a call: nothing, a text or a list, which run to the record's end, or a buffer, whose length is
+// the record's last number.
 pub enum Lent {
     Nothing,
     Text,

@@ -274,9 +274,9 @@ fn version_then_record(journal: &[u8], at: usize) -> Read
     record_at(journal, 1)
 }
 
-// The record at an offset of a journal; at 0 the version byte, and the record after it. The IDs of its list are put into
-// the lent array. Ruled out, for instance: the offset where a bad record ends in place of where it starts; a call from a
-// record with bytes left over.
+// The record at an offset of a journal; at 0 the version byte, and the record after it. The IDs of its list are put
+// into the lent array. Ruled out, for instance: the offset where a bad record ends in place of where it starts; a call
+// from a record with bytes left over.
 pub fn read_record(journal: &[u8], at: usize, list: &mut [u32; MAX_IDS]) -> Read
     ensures answer { λ r. ⌜ r ≡ readAt (now (journal .entry)) at ⌝ }
     ensures ids { λ r. ⌜ now (list .exit) ≡ listAfter (now (journal .entry)) (readAt (now (journal .entry)) at) (now (list .entry)) ⌝ }

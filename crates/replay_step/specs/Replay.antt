@@ -23,8 +23,8 @@ use Rattle.journal.specs.Reading.{idsAt, requestAt}
 abbrev pub maxRead : ℕ
 maxRead = maxLines * lineBytes
 
--- ---- the call of a record, in a journal l
--- a read is lent the first bytes of the buffer, as many as its own had and no more than there are; those behind them stay
+-- ---- the call of a record, in a journal l a read is lent the first bytes of the buffer, as many as its own had and no
+-- more than there are; those behind them stay
 abbrev pub behind : Step → List ℕ → Step
 behind o rest = record { reply = o .reply; tables = o .tables; buffer = o .buffer ++ rest }
 

@@ -66,9 +66,9 @@ fn nothing() -> Response
     }
 }
 
-// Reads the record at an offset of a journal and makes its call. At 0 the version byte is read, and the record after it.
-// The list of the call is put into the lent array, and the text of a read into the lent buffer. Ruled out, for instance:
-// a call of a record that is bad; the answer of another record than the one at the offset.
+// Reads the record at an offset of a journal and makes its call. At 0 the version byte is read, and the record after
+// it. The list of the call is put into the lent array, and the text of a read into the lent buffer. Ruled out, for
+// instance: a call of a record that is bad; the answer of another record than the one at the offset.
 pub fn step(
     t: &mut Tables,
     journal: &[u8],
