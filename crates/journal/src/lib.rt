@@ -1,6 +1,6 @@
 // Calls as bytes, both ways: docs/journal.md has the format.
 pub mod layout;
-pub mod numbers;
+mod numbers;
 pub mod read;
 pub mod write;
 

@@ -10,7 +10,7 @@ use crate::NUMBER_BYTES;
 use idmap::TWO_TO_32;
 
 // Stores the lowest `width` bytes of a number, from the last one on.
-pub fn put_number(buffer: &mut [u8], at: usize, width: usize, x: u64)
+pub(crate) fn put_number(buffer: &mut [u8], at: usize, width: usize, x: u64)
     requires { ⌜ at + width ≤ length (now buffer) ⌝ }
     ensures { λ r. ⌜ now (buffer .exit) ≡ putAt (now (buffer .entry)) at (bigEndian width x) ⌝ }
 {
@@ -24,7 +24,7 @@ pub fn put_number(buffer: &mut [u8], at: usize, width: usize, x: u64)
 }
 
 // Stores numbers of `width` bytes each, one after the other.
-pub fn put_numbers(buffer: &mut [u8], at: usize, width: usize, numbers: &[u64])
+pub(crate) fn put_numbers(buffer: &mut [u8], at: usize, width: usize, numbers: &[u64])
     requires { ⌜ at + length (allBigEndian width (now numbers)) ≤ length (now buffer) ⌝ }
     ensures { λ r. ⌜ now (buffer .exit) ≡ putAt (now (buffer .entry)) at (allBigEndian width (now (numbers .entry))) ⌝ }
 {
@@ -42,7 +42,7 @@ fn wide(x: u32) -> u64
 }
 
 // Stores a list of IDs.
-pub fn put_list(buffer: &mut [u8], at: usize, list: &[u32])
+pub(crate) fn put_list(buffer: &mut [u8], at: usize, list: &[u32])
     requires { ⌜ at + length (allBigEndian 4 (now list)) ≤ length (now buffer) ⌝ }
     ensures { λ r. ⌜ now (buffer .exit) ≡ putAt (now (buffer .entry)) at (allBigEndian 4 (now (list .entry))) ⌝ }
 {
@@ -53,7 +53,7 @@ pub fn put_list(buffer: &mut [u8], at: usize, list: &[u32])
     }
 }
 
-pub fn of_two(s: &[u8]) -> usize
+pub(crate) fn of_two(s: &[u8]) -> usize
     requires { ⌜ length (now s) ≡ 2 ⌝ }
     ensures { λ r. ⌜ r ≡ numberFrom 0 (now (s .entry)) ⌝ }
 {
@@ -83,7 +83,7 @@ fn of_eight(s: &[u8]) -> u64
 }
 
 // The number of four bytes at a place.
-pub fn number_at(s: &[u8], at: usize) -> u32
+pub(crate) fn number_at(s: &[u8], at: usize) -> u32
     requires { ⌜ at + 4 ≤ length (now s) ⌝ }
     ensures { λ r. ⌜ r ≡ numberAt 4 at (now (s .entry)) ⌝ }
 {
@@ -92,7 +92,7 @@ pub fn number_at(s: &[u8], at: usize) -> u32
 }
 
 // The name of eight bytes at a place.
-pub fn name_at(s: &[u8], at: usize) -> u64
+pub(crate) fn name_at(s: &[u8], at: usize) -> u64
     requires { ⌜ at + 8 ≤ length (now s) ⌝ }
     ensures { λ r. ⌜ r ≡ numberAt 8 at (now (s .entry)) ⌝ }
 {
@@ -101,7 +101,7 @@ pub fn name_at(s: &[u8], at: usize) -> u64
 }
 
 // Puts the numbers of four bytes from a place on into a list.
-pub fn load_list(s: &[u8], at: usize, count: usize, list: &mut [u32])
+pub(crate) fn load_list(s: &[u8], at: usize, count: usize, list: &mut [u32])
     requires { ⌜ (at + 4 * count ≤ length (now s)) × (count ≤ length (now list)) ⌝ }
     ensures { λ r. ⌜ now (list .exit) ≡ putAt (now (list .entry)) 0 (numbersAt 4 count at (now (s .entry))) ⌝ }
 {
