@@ -15,7 +15,6 @@ use Rattle.tables.specs.declared.answer.Answer.the-variants.{Refused, Done, Chi
 use Rattle.credentials.specs.declared.own.OwnIds.{OwnIds}
 use Rattle.credentials.specs.Calls.{groupList}
 use Rattle.credentials.specs.OwnReply.{idsList}
-use Rattle.calls.specs.declared.Call.{Call}
 use Rattle.calls.specs.declared.CallAnswer.{CallAnswer}
 use Rattle.calls.specs.declared.CallAnswer.the-variants.{Plain, Own}
 use Rattle.calls.specs.declared.Response.{Response}
@@ -24,20 +23,11 @@ use Rattle.journal.specs.declared.read.Stop.{Stop}
 use Rattle.journal.specs.declared.read.Record.{Record}
 use Rattle.journal.specs.declared.read.Read.{Read}
 use Rattle.journal.specs.declared.read.Read.the-variants.{Found, End, Stopped}
-use Rattle.journal.specs.Layout.{byteOf, namesOf, numbersOf}
+use Rattle.journal.specs.Layout.{byteOf, namesOf, numbersOf, firstThree}
 use Rattle.exports.specs.Codes.{codeOf, spaceAfter, idsRow, ownWidth}
-use Rattle.exports.specs.Replay.{firstThree, stopNumber, foundWords, plainWords, readWords, idsAfter, responseCode, responseIds, CodedStep}
+use Rattle.exports.specs.Replay.{stopNumber, foundWords, plainWords, readWords, idsAfter, responseCode, responseIds, CodedStep}
 
 -- ---- the words of what stands at an offset
-module _ (c d : Call) (r : List ℕ) (e : c ≡ d) where
-  pub names-known : r ≡ firstThree (namesOf d) → r ≡ firstThree (namesOf c)
-  names-known p = rw e p
-
-  pub numbers-known : (n : ℕ) → r ≡ firstThree (numbersOf d n) → r ≡ firstThree (numbersOf c n)
-  numbers-known n p = rw e p
-
-pub ruleset naming = (names-known, numbers-known, needs)
-
 pub found-is : (r : Record) (namespace byte : ℕ) (names numbers : List ℕ) → byte ≡ byteOf (r .call) → names ≡ firstThree (namesOf (r .call))
     → numbers ≡ firstThree (numbersOf (r .call) (r .buffer))
     → byte ∷ getD names 0 0 ∷ getD names 1 0 ∷ getD names 2 0 ∷ getD numbers 0 0 ∷ getD numbers 1 0 ∷ getD numbers 2 0 ∷ r .tail ∷ r .text ∷ r .ids ∷ r .next ∷ namespace ∷ [] ≡ foundWords r namespace

@@ -17,16 +17,12 @@ use Rattle.journal.specs.declared.read.Stop.the-variants.{Version, Cut, Short, 
 use Rattle.journal.specs.declared.read.Record.{Record}
 use Rattle.journal.specs.declared.read.Read.{Read}
 use Rattle.journal.specs.declared.read.Read.the-variants.{Found, End, Stopped}
-use Rattle.journal.specs.Layout.{byteOf, namesOf, numbersOf}
+use Rattle.journal.specs.Layout.{byteOf, namesOf, numbersOf, firstThree}
 use Rattle.journal.specs.Reading.{readAt}
 use Rattle.replay_step.specs.Replay.{replayOf}
 use Rattle.exports.specs.Codes.{codeOf, idsRow, ownWidth}
 
 -- ---- what stands at an offset, in twelve words
--- the first three of a list, and 0 past its last
-abbrev pub firstThree : List ℕ → List ℕ
-firstThree l = getD l 0 0 ∷ getD l 1 0 ∷ getD l 2 0 ∷ []
-
 -- why the reading stops
 abbrev pub stopNumber : Stop → ℕ
 stopNumber Version = 1

@@ -1,7 +1,7 @@
 // What stands at an offset of a journal, as words.
 ghost use mathlib.Core.Path.{_≡_};
-ghost use Rattle.journal.specs.Layout.{byteOf, namesOf, numbersOf};
-ghost use Rattle.exports.specs.Replay.{firstThree, stopNumber, foundWords, plainWords, readWords};
+ghost use Rattle.journal.specs.Layout.{byteOf};
+ghost use Rattle.exports.specs.Replay.{stopNumber, foundWords, plainWords, readWords};
 use calls::Call;
 use journal::layout;
 use journal::read::Read;
@@ -11,50 +11,6 @@ use journal::read::Stop;
 // The words of what stands at an offset: what it is, three names, three other numbers, where these end and the call's
 // text or list starts, the bytes of the one, the IDs of the other, an offset, and the new namespace of a clone.
 pub const RECORD_WORDS: usize = 12;
-
-// The names of a call in order, the caller first, and 0 past the last.
-fn names_of(c: Call) -> [u64; 3]
-    ensures { λ r. ⌜ r ≡ firstThree (namesOf c) ⌝ }
-{
-    match c {
-        Call::Fork(a) => [a, 0, 0],
-        Call::Clone(a) => [a, 0, 0],
-        Call::Unshare(a) => [a, 0, 0],
-        Call::Setns(a, b) => [a, b, 0],
-        Call::WriteMap(_, a, b) => [a, b, 0],
-        Call::WriteSetgroups(a, b) => [a, b, 0],
-        Call::ReadMap(_, a, b) => [a, b, 0],
-        Call::ReadSetgroups(a, b) => [a, b, 0],
-        Call::SetIds(_, a, _) => [a, 0, 0],
-        Call::SetGroups(a) => [a, 0, 0],
-        Call::Capable(a, b, _) => [a, b, 0],
-        Call::Drop(a, b, d) => [a, b, d],
-        Call::OwnIdsOf(a) => [a, 0, 0],
-        Call::Translate(_, _, a, b, _) => [a, b, 0],
-    }
-}
-
-// The other numbers of a call in order, where a read has its buffer's length, and 0 past the last.
-fn numbers_of(c: Call, buffer: u32) -> [u64; 3]
-    ensures { λ r. ⌜ r ≡ firstThree (numbersOf c buffer) ⌝ }
-{
-    match c {
-        Call::Fork(_) => [0, 0, 0],
-        Call::Clone(_) => [0, 0, 0],
-        Call::Unshare(_) => [0, 0, 0],
-        Call::Setns(_, _) => [0, 0, 0],
-        Call::WriteMap(_, _, _) => [0, 0, 0],
-        Call::WriteSetgroups(_, _) => [0, 0, 0],
-        Call::ReadMap(_, _, _) => [buffer as u64, 0, 0],
-        Call::ReadSetgroups(_, _) => [buffer as u64, 0, 0],
-        Call::SetIds(_, _, i) => [i.real as u64, i.effective as u64, i.saved as u64],
-        Call::SetGroups(_) => [0, 0, 0],
-        Call::Capable(_, _, x) => [x as u64, 0, 0],
-        Call::Drop(_, _, _) => [0, 0, 0],
-        Call::OwnIdsOf(_) => [0, 0, 0],
-        Call::Translate(_, _, _, _, x) => [x as u64, 0, 0],
-    }
-}
 
 // A call byte in a word.
 fn byte_word(c: Call) -> u64
@@ -89,8 +45,8 @@ fn found_words(r: Record, namespace: u64) -> [u64; RECORD_WORDS]
 {
     let c = r.call;
     let byte = byte_word(c);
-    let names = names_of(c);
-    let numbers = numbers_of(c, r.buffer);
+    let names = layout::names_of(c);
+    let numbers = layout::numbers_of(c, r.buffer as u64);
     [
         byte,
         names[0],

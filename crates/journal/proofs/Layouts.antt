@@ -12,7 +12,7 @@ use Rattle.calls.specs.declared.Call.the-variants.{Fork, Clone, Unshare, Setns,
 use Rattle.journal.specs.declared.layout.Template.{Template}
 use Rattle.journal.specs.declared.layout.Template.the-variants.{Unknown}
 use Rattle.journal.specs.declared.layout.Form.{Form}
-use Rattle.journal.specs.Layout.{byKind, byWay, byteOf, templates, withByte, templateOf, formOf, fixedBytes}
+use Rattle.journal.specs.Layout.{byKind, byWay, byteOf, templates, withByte, templateOf, formOf, fixedBytes, namesOf, numbersOf, firstThree}
 
 -- at most three names and three numbers
 pub few-names : (c : Call) → formOf c .names ≤ 3
@@ -63,6 +63,12 @@ module _ (c d : Call) (e : c ≡ d) where
   pub byte-known : (r b : ℕ) → r ≡ b → b ≡ byteOf d → r ≡ byteOf c
   byte-known r b p q = p ∙ q ∙ ap byteOf (sym e)
 
+  pub names-known : (r : List ℕ) → r ≡ firstThree (namesOf d) → r ≡ firstThree (namesOf c)
+  names-known r p = rw e p
+
+  pub numbers-known : (r : List ℕ) (n : ℕ) → r ≡ firstThree (numbersOf d n) → r ≡ firstThree (numbersOf c n)
+  numbers-known r n p = rw e p
+
   pub byte-plain : (r : ℕ) → r ≡ byteOf d → r ≡ byteOf c
   byte-plain r q = q ∙ ap byteOf (sym e)
 
@@ -86,4 +92,4 @@ pub template-none : (b : ℕ) → NoneFrom (Unit {0}) b templates → Unknown �
 unfolding templateOf
 template-none b h = none-with (Unit {0}) b templates h .0
 
-pub ruleset layouts = (few-names, form-known, byte-known, byte-plain, translate-known, template-known, fixed-is, needs)
+pub ruleset layouts = (few-names, form-known, byte-known, byte-plain, names-known, numbers-known, translate-known, template-known, fixed-is, needs)

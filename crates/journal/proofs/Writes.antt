@@ -20,20 +20,13 @@ use Rattle.journal.specs.declared.layout.Lent.the-variants.{Text, Groups
 use Rattle.journal.specs.declared.layout.Form.{Form}
 use Rattle.journal.specs.declared.write.Written.the-variants.{Length, Refused}
 use Rattle.journal.specs.Numbers.{bigEndian, allBigEndian}
-use Rattle.journal.specs.Layout.{byteOf, formOf, fixedBytes, namesOf, numbersOf}
+use Rattle.journal.specs.Layout.{byteOf, formOf, fixedBytes, namesOf, numbersOf, firstThree}
 use Rattle.journal.specs.Journal.{tailOf, longBuffer, bodyOf, recordOf, writeOf, bufferBy}
-use Rattle.journal.specs.Arguments.{HasNames, HasNumbers, numbersOn, namesOn}
+use Rattle.journal.specs.Arguments.{numbersOn, namesOn}
 use Rattle.journal.proofs.Layouts.{few-names, few-numbers}
 use Rattle.journal.proofs.Puts.{put-nothing, put-append, put-last, length-number}
 
 -- ---- the arguments of a call
-module _ (c d : Call) (r : List ℕ) (e : c ≡ d) where
-  pub names-known : HasNames r d → HasNames r c
-  names-known h = rw e h
-
-  pub numbers-known : (n : ℕ) → HasNumbers r d n → HasNumbers r c n
-  numbers-known n h = rw e h
-
 pub names-many : (c : Call) → length (namesOf c) ≡ formOf c .names
 unfolding namesOf formOf
 names-many (Fork c) = refl
@@ -67,6 +60,40 @@ numbers-many (Capable c n number) m = refl
 numbers-many (Drop c p e) m = refl
 numbers-many (OwnIdsOf c) m = refl
 numbers-many (Translate k w c n x) m = refl
+
+pub names-first : (c : Call) → take (formOf c .names) (firstThree (namesOf c)) ≡ namesOf c
+unfolding namesOf formOf
+names-first (Fork c) = refl
+names-first (Clone c) = refl
+names-first (Unshare c) = refl
+names-first (Setns c n) = refl
+names-first (WriteMap k c p) = refl
+names-first (WriteSetgroups c p) = refl
+names-first (ReadMap k c p) = refl
+names-first (ReadSetgroups c p) = refl
+names-first (SetIds k c i) = refl
+names-first (SetGroups c) = refl
+names-first (Capable c n number) = refl
+names-first (Drop c p e) = refl
+names-first (OwnIdsOf c) = refl
+names-first (Translate k w c n x) = refl
+
+pub numbers-first : (c : Call) (m : ℕ) → take (formOf c .numbers) (firstThree (numbersOf c m)) ≡ numbersOf c m
+unfolding numbersOf formOf
+numbers-first (Fork c) m = refl
+numbers-first (Clone c) m = refl
+numbers-first (Unshare c) m = refl
+numbers-first (Setns c n) m = refl
+numbers-first (WriteMap k c p) m = refl
+numbers-first (WriteSetgroups c p) m = refl
+numbers-first (ReadMap k c p) m = refl
+numbers-first (ReadSetgroups c p) m = refl
+numbers-first (SetIds k c i) m = refl
+numbers-first (SetGroups c) m = refl
+numbers-first (Capable c n number) m = refl
+numbers-first (Drop c p e) m = refl
+numbers-first (OwnIdsOf c) m = refl
+numbers-first (Translate k w c n x) m = refl
 
 pub length-all : (w : ℕ) (xs : List ℕ) → length (allBigEndian w xs) ≡ length xs * w
 unfolding allBigEndian
@@ -103,7 +130,7 @@ groups-long lent text list e = rw e (sym (length-all 4 list))
 pub long-known : (lent d : Lent) (n : ℕ) (r : Bool) → lent ≡ d → r ≡ longBuffer n d → r ≡ longBuffer n lent
 long-known lent d n r e p = rw e p
 
-pub ruleset tails = (names-known, numbers-known, tail-known, tail-none, groups-room, groups-put, text-put, groups-long, long-known, needs)
+pub ruleset tails = (tail-known, tail-none, groups-room, groups-put, text-put, groups-long, long-known, needs)
 
 -- ---- two stores, one behind the other
 module _ (b : List ℕ) (at : ℕ) (xs ys : List ℕ) (h : at + length (xs ++ ys) ≤ length b) where
@@ -125,10 +152,10 @@ mul-is m k w e = rw e
 
 -- ---- as many of the arguments as a call has: k of them
 module _ (c : Call) (k : ℕ) (e : k ≡ formOf c .names) where
-  pub names-few : (r : List ℕ) → HasNames r c → k ≤ length r
-  names-few r h = rw (e, h .0) (few-names c)
+  pub names-few : (r : List ℕ) → r ≡ firstThree (namesOf c) → k ≤ length r
+  names-few r h = rw (e, h) (few-names c)
 
-  pub names-count : (r : List ℕ) → HasNames r c → k ≡ length (take k r)
+  pub names-count : (r : List ℕ) → r ≡ firstThree (namesOf c) → k ≡ length (take k r)
   names-count r h = sym (length-take-le k r (names-few r h))
 
   pub names-sum : (at : ℕ) (b : List ℕ) → at + length (allBigEndian 8 (namesOf c)) ≤ length b → length b < 2 ^ 64 → at + k * 8 < 2 ^ 64
@@ -140,9 +167,9 @@ module _ (c : Call) (k : ℕ) (e : k ≡ formOf c .names) where
   pub names-end : (at : ℕ) → at + k * 8 ≡ at + length (allBigEndian 8 (namesOf c))
   names-end at = rw (e, length-all 8 (namesOf c), names-many c)
 
-  module _ (r b : List ℕ) (at : ℕ) (h : HasNames r c) where
+  module _ (r b : List ℕ) (at : ℕ) (h : r ≡ firstThree (namesOf c)) where
     names-taken : take k r ≡ namesOf c
-    names-taken = rw e (h .1)
+    names-taken = rw (e, h) (names-first c)
 
     pub names-room : at + length (allBigEndian 8 (namesOf c)) ≤ length b → at + length (allBigEndian 8 (take k r)) ≤ length b
     names-room fits = rw names-taken fits
@@ -151,10 +178,10 @@ module _ (c : Call) (k : ℕ) (e : k ≡ formOf c .names) where
     names-put t p = rw names-taken at p
 
 module _ (c : Call) (k : ℕ) (e : k ≡ formOf c .numbers) where
-  pub numbers-few : (r : List ℕ) (n : ℕ) → HasNumbers r c n → k ≤ length r
-  numbers-few r n h = rw (e, h .0) (few-numbers c)
+  pub numbers-few : (r : List ℕ) (n : ℕ) → r ≡ firstThree (numbersOf c n) → k ≤ length r
+  numbers-few r n h = rw (e, h) (few-numbers c)
 
-  pub numbers-count : (r : List ℕ) (n : ℕ) → HasNumbers r c n → k ≡ length (take k r)
+  pub numbers-count : (r : List ℕ) (n : ℕ) → r ≡ firstThree (numbersOf c n) → k ≡ length (take k r)
   numbers-count r n h = sym (length-take-le k r (numbers-few r n h))
 
   pub numbers-sum : (at n : ℕ) (b : List ℕ) → at + length (allBigEndian 4 (numbersOf c n)) ≤ length b → length b < 2 ^ 64 → at + k * 4 < 2 ^ 64
@@ -166,9 +193,9 @@ module _ (c : Call) (k : ℕ) (e : k ≡ formOf c .numbers) where
   pub numbers-end : (at n : ℕ) → at + k * 4 ≡ at + length (allBigEndian 4 (numbersOf c n))
   numbers-end at n = rw (e, length-all 4 (numbersOf c n), numbers-many c n)
 
-  module _ (r b : List ℕ) (at n : ℕ) (h : HasNumbers r c n) where
+  module _ (r b : List ℕ) (at n : ℕ) (h : r ≡ firstThree (numbersOf c n)) where
     numbers-taken : take k r ≡ numbersOf c n
-    numbers-taken = rw e (h .1)
+    numbers-taken = rw (e, h) (numbers-first c n)
 
     pub numbers-room : at + length (allBigEndian 4 (numbersOf c n)) ≤ length b → at + length (allBigEndian 4 (take k r)) ≤ length b
     numbers-room fits = rw numbers-taken fits

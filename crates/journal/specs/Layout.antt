@@ -136,6 +136,10 @@ numbersOf (Drop c p e) m = []
 numbersOf (OwnIdsOf c) m = []
 numbersOf (Translate k w c n x) m = x ∷ []
 
+-- as three: 0 past the last
+abbrev pub firstThree : List ℕ → List ℕ
+firstThree l = getD l 0 0 ∷ getD l 1 0 ∷ getD l 2 0 ∷ []
+
 -- the call of a template with these arguments
 unfoldable pub callBy : Call → List ℕ → List ℕ → Call
 callBy (Fork c) a b = Fork (getD a 0 0)

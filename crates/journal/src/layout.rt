@@ -1,7 +1,7 @@
 // The call bytes, and what a call's record has after its call byte: the table of docs/journal.md. A byte that is given
 // never changes.
 ghost use mathlib.Core.Path.{_≡_};
-ghost use Rattle.journal.specs.Layout.{byKind, byWay, byteOf, templateOf, formBy, formOf, fixedBytes};
+ghost use Rattle.journal.specs.Layout.{byKind, byWay, byteOf, templateOf, formBy, formOf, fixedBytes, namesOf, numbersOf, firstThree};
 use crate::NAME_BYTES;
 use crate::NUMBER_BYTES;
 use calls::Call;
@@ -178,4 +178,48 @@ pub fn fixed_bytes(c: Call) -> usize
 {
     let f = form_of(c);
     1 + f.names * NAME_BYTES + f.numbers * NUMBER_BYTES
+}
+
+// The names of a call in order, the caller first, and 0 past the last.
+pub fn names_of(c: Call) -> [u64; 3]
+    ensures { λ r. ⌜ r ≡ firstThree (namesOf c) ⌝ }
+{
+    match c {
+        Call::Fork(a) => [a, 0, 0],
+        Call::Clone(a) => [a, 0, 0],
+        Call::Unshare(a) => [a, 0, 0],
+        Call::Setns(a, b) => [a, b, 0],
+        Call::WriteMap(_, a, b) => [a, b, 0],
+        Call::WriteSetgroups(a, b) => [a, b, 0],
+        Call::ReadMap(_, a, b) => [a, b, 0],
+        Call::ReadSetgroups(a, b) => [a, b, 0],
+        Call::SetIds(_, a, _) => [a, 0, 0],
+        Call::SetGroups(a) => [a, 0, 0],
+        Call::Capable(a, b, _) => [a, b, 0],
+        Call::Drop(a, b, d) => [a, b, d],
+        Call::OwnIdsOf(a) => [a, 0, 0],
+        Call::Translate(_, _, a, b, _) => [a, b, 0],
+    }
+}
+
+// The other numbers of a call in order, where a read has its buffer's length, and 0 past the last.
+pub fn numbers_of(c: Call, buffer_length: u64) -> [u64; 3]
+    ensures { λ r. ⌜ r ≡ firstThree (numbersOf c «buffer_length») ⌝ }
+{
+    match c {
+        Call::Fork(_) => [0, 0, 0],
+        Call::Clone(_) => [0, 0, 0],
+        Call::Unshare(_) => [0, 0, 0],
+        Call::Setns(_, _) => [0, 0, 0],
+        Call::WriteMap(_, _, _) => [0, 0, 0],
+        Call::WriteSetgroups(_, _) => [0, 0, 0],
+        Call::ReadMap(_, _, _) => [buffer_length, 0, 0],
+        Call::ReadSetgroups(_, _) => [buffer_length, 0, 0],
+        Call::SetIds(_, _, i) => [i.real as u64, i.effective as u64, i.saved as u64],
+        Call::SetGroups(_) => [0, 0, 0],
+        Call::Capable(_, _, x) => [x as u64, 0, 0],
+        Call::Drop(_, _, _) => [0, 0, 0],
+        Call::OwnIdsOf(_) => [0, 0, 0],
+        Call::Translate(_, _, _, _, x) => [x as u64, 0, 0],
+    }
 }

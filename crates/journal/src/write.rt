@@ -6,7 +6,7 @@ ghost use Rattle.prelude.specs.Parts.{putAt};
 ghost use Rattle.journal.specs.Numbers.{allBigEndian};
 ghost use Rattle.journal.specs.Layout.{formOf, namesOf, numbersOf};
 ghost use Rattle.journal.specs.Journal.{tailOf, bodyOf, recordOf, longBuffer, writeOf, bufferBy};
-ghost use Rattle.journal.specs.Arguments.{HasNames, HasNumbers, numbersOn, namesOn};
+ghost use Rattle.journal.specs.Arguments.{numbersOn, namesOn};
 use crate::MAX_SIZE;
 use crate::NAME_BYTES;
 use crate::NUMBER_BYTES;
@@ -22,50 +22,6 @@ use tables::answer::Errno;
 pub enum Written {
     Length(usize),
     Refused(Errno),
-}
-
-// The names of a call in order, the caller first, and 0 past the last.
-fn names_of(c: Call) -> [u64; 3]
-    ensures { λ r. ⌜ HasNames r c ⌝ }
-{
-    match c {
-        Call::Fork(a) => [a, 0, 0],
-        Call::Clone(a) => [a, 0, 0],
-        Call::Unshare(a) => [a, 0, 0],
-        Call::Setns(a, b) => [a, b, 0],
-        Call::WriteMap(_, a, b) => [a, b, 0],
-        Call::WriteSetgroups(a, b) => [a, b, 0],
-        Call::ReadMap(_, a, b) => [a, b, 0],
-        Call::ReadSetgroups(a, b) => [a, b, 0],
-        Call::SetIds(_, a, _) => [a, 0, 0],
-        Call::SetGroups(a) => [a, 0, 0],
-        Call::Capable(a, b, _) => [a, b, 0],
-        Call::Drop(a, b, d) => [a, b, d],
-        Call::OwnIdsOf(a) => [a, 0, 0],
-        Call::Translate(_, _, a, b, _) => [a, b, 0],
-    }
-}
-
-// The other numbers of a call in order, where a read has its buffer's length, and 0 past the last.
-fn numbers_of(c: Call, buffer_length: u64) -> [u64; 3]
-    ensures { λ r. ⌜ HasNumbers r c «buffer_length» ⌝ }
-{
-    match c {
-        Call::Fork(_) => [0, 0, 0],
-        Call::Clone(_) => [0, 0, 0],
-        Call::Unshare(_) => [0, 0, 0],
-        Call::Setns(_, _) => [0, 0, 0],
-        Call::WriteMap(_, _, _) => [0, 0, 0],
-        Call::WriteSetgroups(_, _) => [0, 0, 0],
-        Call::ReadMap(_, _, _) => [buffer_length, 0, 0],
-        Call::ReadSetgroups(_, _) => [buffer_length, 0, 0],
-        Call::SetIds(_, _, i) => [i.real as u64, i.effective as u64, i.saved as u64],
-        Call::SetGroups(_) => [0, 0, 0],
-        Call::Capable(_, _, x) => [x as u64, 0, 0],
-        Call::Drop(_, _, _) => [0, 0, 0],
-        Call::OwnIdsOf(_) => [0, 0, 0],
-        Call::Translate(_, _, _, _, x) => [x as u64, 0, 0],
-    }
 }
 
 fn name_count(c: Call) -> usize
@@ -134,7 +90,7 @@ fn put_names(buffer: &mut [u8], at: usize, c: Call) -> usize
     ensures bytes { λ r. ⌜ now (buffer .exit) ≡ putAt (now (buffer .entry)) at (allBigEndian 8 (namesOf c)) ⌝ }
 {
     let count = name_count(c);
-    let names = names_of(c);
+    let names = layout::names_of(c);
     numbers::put_numbers(buffer, at, NAME_BYTES, &names[..count]);
     at + count * NAME_BYTES
 }
@@ -146,7 +102,7 @@ fn put_numbers(buffer: &mut [u8], at: usize, c: Call, buffer_length: u64) -> usi
     ensures bytes { λ r. ⌜ now (buffer .exit) ≡ putAt (now (buffer .entry)) at (allBigEndian 4 (numbersOf c «buffer_length»)) ⌝ }
 {
     let count = number_count(c);
-    let numbers = numbers_of(c, buffer_length);
+    let numbers = layout::numbers_of(c, buffer_length);
     numbers::put_numbers(buffer, at, NUMBER_BYTES, &numbers[..count]);
     at + count * NUMBER_BYTES
 }

@@ -8,6 +8,7 @@ found-words-spec =
     tie.close (tie.spec
     (λ c κs. search wording)  -- byte-word-requires
     (λ c κs. search wording)  -- names-of-requires
+    (λ c. search wording)  -- cast-numbers-of
     (λ c κs. search wording)  -- numbers-of-requires
     (λ c. search wording)  -- array-read-t10
     (λ c. search wording)  -- array-read-t13
