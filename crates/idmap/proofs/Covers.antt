@@ -1,7 +1,7 @@
 -- The test whether a range is covered, turn by turn, and what it shows of each ID of the range. Assumes nothing.
-use mathlib.Core.Path.{_≡_, refl, sym, _∙_}
+use mathlib.Core.Path.{_≡_, sym, ap, _∙_}
 use mathlib.Core.Bool.{Bool, true, false, false≢true}
-use mathlib.Core.List.{List, [], _∷_}
+use mathlib.Core.List.{List, [], _∷_, map}
 use mathlib.Core.Logic.{_↔_}
 use Prim.Native.Nat.{ℕ, zero, suc, _+_, _-_, _≤_, _<_, _^_}
 use native.Mathlib.Nat.{le-refl, le-of-lt, le-suc}
@@ -11,33 +11,37 @@ use lib.ListN.{length, getD}
 use borrow.Author.Needs.{needs}
 use borrow.Author.Tests.{ltb-true, ltb-false, eq-eqb, ne-eqb, eqb-true, eqb-false}
 use Rattle.idmap.specs.declared.Line.{Line}
-use Rattle.idmap.specs.declared.Translated.the-variants.{Id, Unmapped}
+use Rattle.idmap.specs.declared.LookedUp.{LookedUp}
+use Rattle.idmap.specs.declared.Translated.the-variants.{Id}
+use Rattle.idmap.specs.declared.cover.Coverage.{Coverage}
 use Rattle.idmap.specs.Line.{less, more, inRange, noLine}
-use Rattle.idmap.specs.Lookup.{movedBy, out, reachOf}
+use Rattle.idmap.specs.Lookup.{movedBy, lookupOf, out, reachOf, facingOf}
 use Rattle.idmap.specs.Good.{noId, goodOf, Within}
-use Rattle.idmap.specs.Cover.{coveredIn, coveredOf, HasLine, Mapped}
+use Rattle.idmap.specs.Cover.{told, further, coveredIn, coverOf, coveredOf, HasLine, Mapped}
 use Rattle.prelude.proofs.Tests.{by-test}
+use Rattle.idmap.proofs.Lookups.{reach-forth}
 use Rattle.idmap.proofs.Interval.{in-interval, interval-in}
 use Rattle.idmap.proofs.Goodness.{good-first, good-others}
 use Rattle.idmap.proofs.Translation.{two-answers, out-here, out-later}
+use Rattle.idmap.proofs.Reach.{reach-none, reach-mapped}
 
 -- ---- a step: the last ID is in reach, or nothing is, or the range goes on past the line's end
 module _ (ls : List Line) (at last : ℕ) where
-  in-reach : (k : ℕ) → inRange last at (reachOf ls at) ≡ true → coveredIn k ls at last ≡ true
+  pub in-reach : (k : ℕ) → inRange last at (reachOf ls at) ≡ true → coveredIn k ls at last ≡ told true
   unfolding coveredIn
-  in-reach zero h = h
+  in-reach zero h = rw h
   in-reach (suc k) h = rw h
 
-  nowhere : (k : ℕ) → inRange last at (reachOf ls at) ≡ false → reachOf ls at ≡ 0 → coveredIn k ls at last ≡ false
+  pub nowhere : (k : ℕ) → inRange last at (reachOf ls at) ≡ false → reachOf ls at ≡ 0 → coveredIn k ls at last ≡ told false
   unfolding coveredIn
-  nowhere zero h z = h
+  nowhere zero h z = rw h
   nowhere (suc k) h z = rw (h, eq-eqb (reachOf ls at) 0 z)
 
-  past : (k : ℕ) → inRange last at (reachOf ls at) ≡ false → (reachOf ls at ≡ 0 → ⊥) → coveredIn (suc k) ls at last ≡ coveredIn k ls (more at (reachOf ls at)) last
+  pub past : (k : ℕ) → inRange last at (reachOf ls at) ≡ false → (reachOf ls at ≡ 0 → ⊥) → coveredIn (suc k) ls at last ≡ further (coveredIn k ls (more at (reachOf ls at)) last)
   unfolding coveredIn
   past k h z = rw (h, ne-eqb (reachOf ls at) 0 z)
 
-  three-ways : {P : Type 0} → (inRange last at (reachOf ls at) ≡ true → P) → (inRange last at (reachOf ls at) ≡ false → reachOf ls at ≡ 0 → P)
+  pub three-ways : {P : Type 0} → (inRange last at (reachOf ls at) ≡ true → P) → (inRange last at (reachOf ls at) ≡ false → reachOf ls at ≡ 0 → P)
       → (inRange last at (reachOf ls at) ≡ false → (reachOf ls at ≡ 0 → ⊥) → reachOf ls at ≤ less last at → P) → P
   three-ways f g h =
       by-test (inRange last at (reachOf ls at)) f
@@ -47,7 +51,7 @@ module _ (ls : List Line) (at last : ℕ) where
       (λ u. h t (eqb-false (reachOf ls at) 0 u) (ltb-false (less last at) (reachOf ls at) t)))
 
 -- a step of n IDs leaves n less
-step-left : (at last n : ℕ) → at < 2 ^ 32 → last < 2 ^ 32 → n ≤ less last at → less last (more at n) ≡ less last at - n
+pub step-left : (at last n : ℕ) → at < 2 ^ 32 → last < 2 ^ 32 → n ≤ less last at → less last (more at n) ≡ less last at - n
 step-left at last n p q h = omega arith
 
 pub more-small : (at n : ℕ) → more at n < 2 ^ 32
@@ -77,90 +81,116 @@ enough (suc k) (suc j) ls at last a b p q =
     (λ t z h.
     let e = step-left at last (reachOf ls at) a b h in
     past ls at last k t z
-    ∙ enough k j ls (more at (reachOf ls at)) last (more-small at (reachOf ls at)) b (fewer k e z p) (fewer j e z q)
+    ∙ ap further (enough k j ls (more at (reachOf ls at)) last (more-small at (reachOf ls at)) b (fewer k e z p) (fewer j e z q))
     ∙ sym (past ls at last j t z))
 
 -- ---- with just as many: the answer for the IDs from at to last
-pub coveredTo : List Line → ℕ → ℕ → Bool
+pub coveredTo : List Line → ℕ → ℕ → Coverage
 coveredTo ls at last = coveredIn (less last at) ls at last
 
-in-reach-to : (ls : List Line) (at last : ℕ) → inRange last at (reachOf ls at) ≡ true → coveredTo ls at last ≡ true
+in-reach-to : (ls : List Line) (at last : ℕ) → inRange last at (reachOf ls at) ≡ true → coveredTo ls at last ≡ told true
 unfolding coveredTo
 in-reach-to ls at last t = in-reach ls at last (less last at) t
 
-nowhere-to : (ls : List Line) (at last : ℕ) → inRange last at (reachOf ls at) ≡ false → reachOf ls at ≡ 0 → coveredTo ls at last ≡ false
+nowhere-to : (ls : List Line) (at last : ℕ) → inRange last at (reachOf ls at) ≡ false → reachOf ls at ≡ 0 → coveredTo ls at last ≡ told false
 unfolding coveredTo
 nowhere-to ls at last t z = nowhere ls at last (less last at) t z
 
-past-to : (ls : List Line) (at last : ℕ) → at < 2 ^ 32 → last < 2 ^ 32 → inRange last at (reachOf ls at) ≡ false → (reachOf ls at ≡ 0 → ⊥) → coveredTo ls at last ≡ coveredTo ls (more at (reachOf ls at)) last
+past-to : (ls : List Line) (at last : ℕ) → at < 2 ^ 32 → last < 2 ^ 32 → inRange last at (reachOf ls at) ≡ false → (reachOf ls at ≡ 0 → ⊥) → coveredTo ls at last ≡ further (coveredTo ls (more at (reachOf ls at)) last)
 unfolding coveredTo
 past-to ls at last a b t z =
     let h = ltb-false (less last at) (reachOf ls at) t in
     let e = step-left at last (reachOf ls at) a b h in
     enough (less last at) (suc (less last at)) ls at last a b (le-refl (less last at)) (le-suc (less last at))
     ∙ past ls at last (less last at) t z
-    ∙ enough (less last at) (less last (more at (reachOf ls at))) ls (more at (reachOf ls at)) last (more-small at (reachOf ls at)) b (le-of-lt (fewer-still e z h)) (le-refl _)
+    ∙ ap further (enough (less last at) (less last (more at (reachOf ls at))) ls (more at (reachOf ls at)) last (more-small at (reachOf ls at)) b (le-of-lt (fewer-still e z h)) (le-refl _))
 
 -- the IDs of a range, but one, lie between its first and its last
 whole : (start count : ℕ) → start < 2 ^ 32 → count < 2 ^ 32 → less (more start (count - 1)) start ≤ count
 whole start count a b = omega arith
 
--- ---- the loop: the answer from here is the whole answer
-pub covered-empty : (ls : List Line) (start count : ℕ) → count ≡ 0 → true ≡ coveredOf ls start count
-unfolding coveredOf
-covered-empty ls start count z = rw (eq-eqb count 0 z)
+-- ---- the loop: the answer from here, after so many lookups, is the whole answer
+abbrev pub after : ℕ → Coverage → Coverage
+after k c = record { covered = c .covered; lookups = k + c .lookups }
 
-pub covered-starts : (ls : List Line) (start count last : ℕ) → start < 2 ^ 32 → count < 2 ^ 32 → (count ≡ 0 → ⊥) → last ≡ more start (count - 1) → coveredOf ls start count ≡ coveredTo ls start last
-unfolding coveredOf coveredTo
-covered-starts ls start count last a b z e =
+after-none : (c : Coverage) → c ≡ after 0 c
+after-none c = let e : c .lookups ≡ 0 + c .lookups = omega arith in λ i. record { covered = c .covered; lookups = e i }
+
+after-further : (k : ℕ) (c : Coverage) → after k (further c) ≡ after (k + 1) c
+after-further k c = let e : k + (1 + c .lookups) ≡ (k + 1) + c .lookups = omega arith in λ i. record { covered = c .covered; lookups = e i }
+
+pub cover-empty : (ls : List Line) (start count : ℕ) → count ≡ 0 → _≡_ {A = Coverage} (record { covered = true; lookups = 0 }) (coverOf ls start count)
+unfolding coverOf
+cover-empty ls start count z = rw (eq-eqb count 0 z)
+
+cover-to : (ls : List Line) (start count last : ℕ) → start < 2 ^ 32 → count < 2 ^ 32 → (count ≡ 0 → ⊥) → last ≡ more start (count - 1) → coverOf ls start count ≡ coveredTo ls start last
+unfolding coverOf coveredTo
+cover-to ls start count last a b z e =
     rw (ne-eqb count 0 z, ← e) (enough count (less last start) ls start last a (rw e (more-small start (count - 1))) (rw e (whole start count a b)) (le-refl _))
 
-module _ (ls : List Line) (start count last at n : ℕ) (small : at < 2 ^ 32) (end : last < 2 ^ 32) (inv : coveredOf ls start count ≡ coveredTo ls at last) (read : n ≡ reachOf ls at) (t : Bool) (tested : t ≡ inRange last at n) where
-  pub covered-yes : t ≡ true → true ≡ coveredOf ls start count
-  covered-yes y = sym (inv ∙ in-reach-to ls at last (rw (tested, read) at y))
+-- what a turn keeps. There are fewer lookups than IDs, so that they can be counted
+pub record Going (ls : List Line) (start count last at k : ℕ) : Type 0 where
+  pub small : at < 2 ^ 32
+  pub end : last < 2 ^ 32
+  pub room : k + less last at < 2 ^ 32
+  pub answer : coverOf ls start count ≡ after k (coveredTo ls at last)
 
-  pub covered-no : t ≡ false → n ≡ 0 → false ≡ coveredOf ls start count
-  covered-no y z = sym (inv ∙ nowhere-to ls at last (rw (tested, read) at y) (sym read ∙ z))
+pub going-starts : (ls : List Line) (start count last : ℕ) → start < 2 ^ 32 → count < 2 ^ 32 → (count ≡ 0 → ⊥) → last ≡ more start (count - 1) → Going ls start count last start 0
+going-starts ls start count last a b z e = record {
+  small = a;
+  end = rw e (more-small start (count - 1));
+  room = omega arith;
+  answer = cover-to ls start count last a b z e ∙ after-none (coveredTo ls start last);
+}
 
-  pub covered-on : (next : ℕ) → t ≡ false → (n ≡ 0 → ⊥) → next ≡ more at n → coveredOf ls start count ≡ coveredTo ls next last
-  covered-on next y z e = inv ∙ past-to ls at last small end (rw (tested, read) at y) (λ q. z (read ∙ q)) ∙ rw (e, read)
+module _ (ls : List Line) (start count last at k : ℕ) (inv : Going ls start count last at k) where
+  pub going-room : k + 1 < 2 ^ 64
+  going-room = omega (arith, inv .room)
 
-  pub covered-falls : (next : ℕ) → t ≡ false → (n ≡ 0 → ⊥) → next ≡ more at n → less last next < less last at
-  covered-falls next y z e =
-      let h = ltb-false (less last at) n (sym tested ∙ y) in
-      let f = step-left at last n small end h in
-      rw e (fewer-still f z h)
+  module _ (f : LookedUp) (t : Bool) (tested : t ≡ inRange last at (f .reach)) where
+    -- the last ID is not in reach, and something is: the next ID is nearer to it
+    module _ (y : t ≡ false) (z : f .reach ≡ 0 → ⊥) (next : ℕ) (e : next ≡ more at (f .reach)) where
+      pub going-nearer : less last next < less last at
+      going-nearer =
+          let h = ltb-false (less last at) (f .reach) (sym tested ∙ y) in
+          rw e (fewer-still (step-left at last (f .reach) (inv .small) (inv .end) h) z h)
 
--- ---- what it shows: a line that holds the first ID holds as many as it reaches, and none is held where nothing is
--- reached
-reach-mapped : (ls : List Line) (x i : ℕ) → goodOf ls ≡ true → x < 2 ^ 32 → i < reachOf ls x → x + i < 2 ^ 32 → Mapped ls (x + i)
-unfolding reachOf
-reach-mapped [] x i g small h room = absurd (omega arith)
-reach-mapped (l ∷ ls) x i g small h room =
-    by-test (inRange (x + i) (l .inside) (l .count))
-    (λ q. (movedBy l (x + i), out-here l ls (x + i) q))
-    (λ q.
-    by-test (inRange x (l .inside) (l .count))
-    (λ p.
-    let w = in-interval x (l .inside) (l .count) small (good-first l ls g .inside-fits) p in
-    let fits = good-first l ls g .inside-fits in
-    let k : i < l .count - less x (l .inside) = rw p at h in
-    let e = interval-in (x + i) (l .inside) (l .count) room fits (omega arith, omega arith) in
-    absurd (false≢true (sym q ∙ e)))
-    (λ p.
-    let k : i < reachOf ls x = rw p at h in
-    let m = reach-mapped ls x i (good-others l ls g) small k room in
-    (m .0, out-later l ls (x + i) q ∙ m .1)))
+    module _ (read : f ≡ lookupOf (map (facingOf false) ls) at) where
+      reach-is : f .reach ≡ reachOf ls at
+      reach-is = reach-forth ls at f read
 
-reach-unmapped : (ls : List Line) (x : ℕ) → reachOf ls x ≡ 0 → out ls x ≡ Unmapped
-unfolding reachOf out
-reach-unmapped [] x e = refl
-reach-unmapped (l ∷ ls) x e =
-    by-test (inRange x (l .inside) (l .count))
-    (λ p. let k : l .count - less x (l .inside) ≡ 0 = rw p at e in let h = ltb-true (less x (l .inside)) (l .count) p in absurd (omega arith))
-    (λ p. let k : reachOf ls x ≡ 0 = rw p at e in out-later l ls x p ∙ reach-unmapped ls x k)
+      tested-reach : inRange last at (reachOf ls at) ≡ t
+      tested-reach = sym (rw reach-is at tested)
 
--- ---- in bounds nothing wraps
+      pub going-yes : t ≡ true → _≡_ {A = Coverage} (record { covered = true; lookups = k + 1 }) (coverOf ls start count)
+      going-yes y = sym (inv .answer ∙ ap (after k) (in-reach-to ls at last (tested-reach ∙ y)))
+
+      module _ (y : t ≡ false) where
+        pub going-no : f .reach ≡ 0 → _≡_ {A = Coverage} (record { covered = false; lookups = k + 1 }) (coverOf ls start count)
+        going-no z = sym (inv .answer ∙ ap (after k) (nowhere-to ls at last (tested-reach ∙ y) (sym reach-is ∙ z)))
+
+        pub going-on : (next : ℕ) → (f .reach ≡ 0 → ⊥) → next ≡ more at (f .reach) → Going ls start count last next (k + 1)
+        going-on next z e =
+            let nearer = going-nearer y z next e in
+            let m : next ≡ more at (reachOf ls at) = rw reach-is at e in
+            record {
+              small = rw e (more-small at (f .reach));
+              end = inv .end;
+              room = omega (arith, inv .room, nearer);
+              answer =
+                  inv .answer
+                  ∙ ap (after k) (past-to ls at last (inv .small) (inv .end) (tested-reach ∙ y) (λ q. z (reach-is ∙ q)))
+                  ∙ rw m (after-further k (coveredTo ls (more at (reachOf ls at)) last));
+            }
+
+abbrev told-of : Coverage → Bool
+told-of c = c .covered
+
+pub covered-of : (ls : List Line) (start count : ℕ) (r : Coverage) → r ≡ coverOf ls start count → r .covered ≡ coveredOf ls start count
+unfolding coveredOf
+covered-of ls start count r e = ap told-of e
+
+-- ---- what it shows of each ID of the range. In bounds nothing wraps
 ahead : (at last : ℕ) → at ≤ last → last < 2 ^ 32 → less last at ≡ last - at
 ahead at last h b = omega arith
 
@@ -175,43 +205,43 @@ reached : (at last n : ℕ) → at ≤ last → last < 2 ^ 32 → inRange last a
 reached at last n h b t = rw (ahead at last h b) at (ltb-true (less last at) n t)
 
 -- a range that is covered has a line for each of its IDs
-covered-all : (k : ℕ) (ls : List Line) (at last : ℕ) → goodOf ls ≡ true → last - at < k → at ≤ last → last < noId → coveredTo ls at last ≡ true → (x : ℕ) → at ≤ x → x ≤ last → Mapped ls x
+covered-all : (k : ℕ) (ls : List Line) (at last : ℕ) → goodOf ls ≡ true → last - at < k → at ≤ last → last < noId → coveredTo ls at last .covered ≡ true → (x : ℕ) → at ≤ x → x ≤ last → Mapped ls x
 covered-all zero ls at last g p b c e x lo hi = absurd (omega arith)
 covered-all (suc k) ls at last g p b c e x lo hi =
-    let near : x - at < reachOf ls at → Mapped ls x = λ h. let z : at + (x - at) ≡ x = omega arith in rw z at (reach-mapped ls at (x - at) g (omega arith) h (omega arith)) in
+    let near : x - at < reachOf ls at → Mapped ls x = λ h. let z : at + (x - at) ≡ x = omega arith in rw z at (reach-mapped ls at (x - at) g (omega arith) h) in
     three-ways ls at last
     (λ t. let h = reached at last (reachOf ls at) b (omega arith) t in near (omega arith))
-    (λ t z. absurd (false≢true (sym (nowhere-to ls at last t z) ∙ e)))
+    (λ t z. absurd (false≢true (sym (ap told-of (nowhere-to ls at last t z)) ∙ e)))
     (λ t z h.
     let k′ = not-reached at last (reachOf ls at) b (omega arith) t in
     let m = onward at last (reachOf ls at) b (omega arith) k′ in
-    let later = rw m at (sym (past-to ls at last (omega arith) (omega arith) t z) ∙ e) in
+    let later = rw m at (sym (ap told-of (past-to ls at last (omega arith) (omega arith) t z)) ∙ e) in
     by-test (ltb (x - at) (reachOf ls at))
     (λ u. near (ltb-true (x - at) (reachOf ls at) u))
     (λ u.
     let v = ltb-false (x - at) (reachOf ls at) u in
     covered-all k ls (at + reachOf ls at) last g (omega arith) (omega arith) c later x (omega arith) hi))
 
-all-covered : (k : ℕ) (ls : List Line) (at last : ℕ) → last - at < k → at ≤ last → last < noId → ((x : ℕ) → at ≤ x → x ≤ last → Mapped ls x) → coveredTo ls at last ≡ true
+all-covered : (k : ℕ) (ls : List Line) (at last : ℕ) → last - at < k → at ≤ last → last < noId → ((x : ℕ) → at ≤ x → x ≤ last → Mapped ls x) → coveredTo ls at last .covered ≡ true
 all-covered zero ls at last p b c f = absurd (omega arith)
 all-covered (suc k) ls at last p b c f =
     three-ways ls at last
-    (λ t. in-reach-to ls at last t)
-    (λ t z. let m = f at (omega arith) b in absurd (two-answers (sym (reach-unmapped ls at z) ∙ m .1)))
+    (λ t. ap told-of (in-reach-to ls at last t))
+    (λ t z. let m = f at (omega arith) b in absurd (two-answers (sym (reach-none ls at .0 z) ∙ m .1)))
     (λ t z h.
     let k′ = not-reached at last (reachOf ls at) b (omega arith) t in
     let m = onward at last (reachOf ls at) b (omega arith) k′ in
-    past-to ls at last (omega arith) (omega arith) t z
+    ap told-of (past-to ls at last (omega arith) (omega arith) t z)
     ∙ rw m (all-covered k ls (at + reachOf ls at) last (omega arith) (omega arith) c (λ x lo hi. f x (omega arith) hi)))
 
 -- covered holds exactly when each single ID of the range is mapped
 pub covered-mapped : (ls : List Line) (start count : ℕ) → goodOf ls ≡ true → start + count ≤ noId → (coveredOf ls start count ≡ true) ↔ ((x : ℕ) → Within x start count → Mapped ls x)
 covered-mapped ls start count g b = by-test (eqb count 0)
-    (λ t. let z = eqb-true count 0 t in ((λ e x w. absurd (omega arith)), (λ f. sym (covered-empty ls start count z))))
+    (λ t. let z = eqb-true count 0 t in ((λ e x w. absurd (omega arith)), (λ f. sym (covered-of ls start count _ (cover-empty ls start count z)))))
     (λ t.
     let z = eqb-false count 0 t in
     let last : more start (count - 1) ≡ start + count - 1 = omega arith in
-    let same = covered-starts ls start count (start + count - 1) (omega arith) (omega arith) z (sym last) in (
+    let same = sym (covered-of ls start count _ (sym (cover-to ls start count (start + count - 1) (omega arith) (omega arith) z (sym last)))) in (
       (λ e x w. covered-all (suc count) ls start (start + count - 1) g (omega arith) (omega arith) (omega arith) (sym same ∙ e) x (w .0) (omega arith)),
       λ f. same ∙ all-covered (suc count) ls start (start + count - 1) (omega arith) (omega arith) (omega arith) (λ x lo hi. f x (lo, omega arith)),
     ))
@@ -247,4 +277,14 @@ covered-means ls start count g b = (
   λ f. covered-mapped ls start count g b .1 (λ x w. mapped-means ls x g (omega arith) .1 (f x w)),
 )
 
-pub ruleset covers = (covered-empty, covered-starts, covered-yes, covered-no, covered-on, covered-falls, more-small, needs)
+pub ruleset covers = (
+  cover-empty,
+  going-starts,
+  going-room,
+  going-nearer,
+  going-yes,
+  going-no,
+  going-on,
+  covered-of,
+  needs,
+)

@@ -1,15 +1,15 @@
 -- Examples of document 01, computed from the definitions. Assumes nothing.
 use mathlib.Core.Path.{_≡_, refl}
 use mathlib.Core.Bool.{true, false}
-use mathlib.Core.List.{[], _∷_}
+use mathlib.Core.List.{List, [], _∷_, map}
 use mathlib.Core.Option.{none, some}
 use Prim.Native.Nat.{ℕ}
 use Rattle.prelude.specs.Lists.{consOf, allOf}
 use Rattle.idmap.specs.declared.Line.{Line}
 use Rattle.idmap.specs.declared.Translated.the-variants.{Id, Unmapped}
-use Rattle.idmap.specs.Lookup.{out, back, reachOf}
+use Rattle.idmap.specs.Lookup.{lookupOf, out, reachOf, flip, back}
 use Rattle.idmap.specs.Good.{fitsOf, boundedOf, apartSide, apartOf, allApart, goodOf}
-use Rattle.idmap.specs.Cover.{coveredIn, coveredOf}
+use Rattle.idmap.specs.Cover.{coveredIn, coverOf}
 use Rattle.idmap.specs.Text.{pieces, filled, allDigits, decimal, decimalOf, numbersOf, threeOf, lineOf, textLines, checked, mapLines}
 
 abbrev line : ℕ → ℕ → ℕ → Line
@@ -28,22 +28,48 @@ comes-back : back (line 0 100000 65536 ∷ []) 165535 ≡ Id 65535
 unfolding out
 comes-back = refl
 
+-- lines `0 100000 10` and `10 100010 5`: a lookup counts to the end of its own line, though the next one goes on by the
+-- same offset
+abbrev adjoining : List Line
+adjoining = line 0 100000 10 ∷ line 10 100010 5 ∷ []
+
+ends-with-its-line : lookupOf adjoining 8 ≡ record { translated = Id 100008; reach = 2 }
+unfolding lookupOf
+ends-with-its-line = refl
+
+starts-with-the-next : lookupOf adjoining 10 ≡ record { translated = Id 100010; reach = 5 }
+unfolding lookupOf
+starts-with-the-next = refl
+
+none-past-the-lines : lookupOf adjoining 15 ≡ record { translated = Unmapped; reach = 0 }
+unfolding lookupOf
+none-past-the-lines = refl
+
+counts-back : lookupOf (map flip adjoining) 100012 ≡ record { translated = Id 12; reach = 3 }
+unfolding lookupOf
+counts-back = refl
+
 -- the fixed line of namespace 0 covers all but the last value
-all-covered : coveredOf (line 0 0 4294967295 ∷ []) 0 4294967295 ≡ true
-unfolding coveredOf coveredIn reachOf
+all-covered : coverOf (line 0 0 4294967295 ∷ []) 0 4294967295 ≡ record { covered = true; lookups = 1 }
+unfolding coverOf coveredIn reachOf
 all-covered = refl
 
--- a range across two lines that touch, one that runs past them, and one whose ends alone have a line
-across : coveredOf (line 0 100000 10 ∷ line 10 100010 5 ∷ []) 8 4 ≡ true
-unfolding coveredOf coveredIn reachOf
+-- a range in one line, one across two lines that touch, one that runs past them with one lookup for each line and one
+-- more, and one whose ends alone have a line
+within : coverOf adjoining 8 2 ≡ record { covered = true; lookups = 1 }
+unfolding coverOf coveredIn reachOf
+within = refl
+
+across : coverOf adjoining 8 4 ≡ record { covered = true; lookups = 2 }
+unfolding coverOf coveredIn reachOf
 across = refl
 
-too-far : coveredOf (line 0 100000 10 ∷ line 10 100010 5 ∷ []) 8 8 ≡ false
-unfolding coveredOf coveredIn reachOf
+too-far : coverOf adjoining 8 8 ≡ record { covered = false; lookups = 3 }
+unfolding coverOf coveredIn reachOf
 too-far = refl
 
-ends-only : coveredOf (line 0 100000 10 ∷ line 20 100020 10 ∷ []) 5 20 ≡ false
-unfolding coveredOf coveredIn reachOf
+ends-only : coverOf (line 0 100000 10 ∷ line 20 100020 10 ∷ []) 5 20 ≡ record { covered = false; lookups = 2 }
+unfolding coverOf coveredIn reachOf
 ends-only = refl
 
 -- "0 100000 10\n10 100010 5"

@@ -5,7 +5,9 @@ pub mod Overlaps
 pub mod Interval
 pub mod Goodness
 pub mod Translation
+pub mod Reach
 pub mod Covers
+pub mod CoverLookups
 pub mod Scans
 pub mod Fields
 pub mod FirstLine

@@ -2,18 +2,19 @@
 -- Assumes nothing.
 use Prim.Native.Nat.{ℕ, _+_, _-_, _≤_, _<_, _%_, _^_}
 use mathlib.Core.Path.{_≡_, refl, sym, ap, _∙_}
-use mathlib.Core.Bool.{Bool, true, false, cond}
+use mathlib.Core.Bool.{Bool, true, false}
 use mathlib.Core.List.{List, _∷_, map, map-id}
+use native.Mathlib.Nat.{le-of-lt}
 use native.Mathlib.Omega.{arith}
 use lib.ListN.{length, drop}
 use lib.Dec.{ltb}
 use borrow.Author.Needs.{needs}
-use borrow.Author.Tests.{lt-ltb, le-ltb}
+use borrow.Author.Tests.{ltb-true}
 use Rattle.idmap.specs.declared.Line.{Line}
-use Rattle.idmap.specs.declared.Translated.{Translated}
-use Rattle.idmap.specs.declared.Translated.the-variants.{Id, Unmapped}
+use Rattle.idmap.specs.declared.LookedUp.{LookedUp}
+use Rattle.idmap.specs.declared.Translated.the-variants.{Id}
 use Rattle.idmap.specs.Line.{less, inRange, lineAt, linesIn, lineWords}
-use Rattle.idmap.specs.Lookup.{movedBy, out, flip, facingOf, reachOf}
+use Rattle.idmap.specs.Lookup.{heldBy, heldByNone, lookupOf, out, reachOf, flip, facingOf, back}
 use Rattle.idmap.proofs.Words.{lines-step, lines-end}
 
 -- in_range
@@ -30,81 +31,70 @@ facing-flip b l t = rw t
 pub facing-same : (b : Bool) (l : Line) → b ≡ false → l ≡ facingOf b l
 facing-same b l t = rw t
 
--- first: what the lines from place i on make of the ID
-pub outFrom : Bool → List ℕ → ℕ → ℕ → Translated
-outFrom b ws i id = out (map (facingOf b) (linesIn (drop i ws))) id
+-- held
+module _ (l : Line) (id d : ℕ) (e : (d + l .inside) % 2 ^ 32 ≡ id) (h : d < 2 ^ 32) (k : l .inside < 2 ^ 32) where
+  pub held-left : inRange id (l .inside) (l .count) ≡ true → d ≤ l .count
+  held-left t = le-of-lt (ltb-true d (l .count) (in-range-is id (l .inside) (l .count) d e h k ∙ t))
+
+  pub held-is : (p : ℕ) → p ≡ (l .parent + d) % 2 ^ 32 → _≡_ {A = LookedUp} (record { translated = Id p; reach = l .count - d }) (heldBy l id)
+  held-is p m = rw (m, less-is id (l .inside) d e h k)
+
+-- lookup: what the lines from place i on answer
+pub lookupFrom : Bool → List ℕ → ℕ → ℕ → LookedUp
+lookupFrom b ws i id = lookupOf (map (facingOf b) (linesIn (drop i ws))) id
 
 module _ (b : Bool) (ws : List ℕ) (i id : ℕ) where
-  pub out-starts : outFrom b ws 0 id ≡ out (map (facingOf b) (linesIn ws)) id
-  unfolding outFrom
-  out-starts = refl
+  pub lookup-starts : lookupFrom b ws 0 id ≡ lookupOf (map (facingOf b) (linesIn ws)) id
+  unfolding lookupFrom
+  lookup-starts = refl
 
-  out-step : lineWords ≤ length ws - i → outFrom b ws i id ≡ out (facingOf b (lineAt ws i) ∷ map (facingOf b) (linesIn (drop (i + lineWords) ws))) id
-  unfolding outFrom
-  out-step h = rw (lines-step ws i h)
+  lookup-step : lineWords ≤ length ws - i → lookupFrom b ws i id ≡ lookupOf (facingOf b (lineAt ws i) ∷ map (facingOf b) (linesIn (drop (i + lineWords) ws))) id
+  unfolding lookupFrom
+  lookup-step h = rw (lines-step ws i h)
 
-  module _ (inv : outFrom b ws 0 id ≡ outFrom b ws i id) where
-    pub first-end : length ws - i < lineWords → Unmapped ≡ out (map (facingOf b) (linesIn ws)) id
-    unfolding outFrom out
-    first-end h = sym (inv ∙ rw (lines-end ws i h))
+  module _ (inv : lookupFrom b ws 0 id ≡ lookupFrom b ws i id) where
+    pub lookup-end : length ws - i < lineWords → heldByNone ≡ lookupOf (map (facingOf b) (linesIn ws)) id
+    unfolding lookupFrom lookupOf
+    lookup-end h = sym (inv ∙ rw (lines-end ws i h))
 
     module _ (more : lineWords ≤ length ws - i) (w l : Line) (read : w ≡ lineAt ws i) (at : l ≡ facingOf b w) (t : Bool) (tested : t ≡ inRange id (l .inside) (l .count)) where
-      pub first-hit : (r : ℕ) → t ≡ true → r ≡ movedBy l id → Id r ≡ out (map (facingOf b) (linesIn ws)) id
-      unfolding outFrom out
-      first-hit r y m = sym (inv ∙ out-step more ∙ rw (← read, ← at, ← tested, y, ← m))
+      pub lookup-hit : (r : LookedUp) → t ≡ true → r ≡ heldBy l id → r ≡ lookupOf (map (facingOf b) (linesIn ws)) id
+      unfolding lookupFrom lookupOf
+      lookup-hit r y m = m ∙ sym (inv ∙ lookup-step more ∙ rw (← read, ← at, ← tested, y))
 
-      pub first-miss : t ≡ false → outFrom b ws 0 id ≡ outFrom b ws (i + lineWords) id
-      unfolding outFrom out
-      first-miss f = inv ∙ out-step more ∙ rw (← read, ← at, ← tested, f)
+      pub lookup-miss : t ≡ false → lookupFrom b ws 0 id ≡ lookupFrom b ws (i + lineWords) id
+      unfolding lookupFrom lookupOf
+      lookup-miss f = inv ∙ lookup-step more ∙ rw (← read, ← at, ← tested, f)
 
-pub lookup-forth : (ls : List Line) (id : ℕ) (r : Translated) → r ≡ out (map (facingOf false) ls) id → r ≡ out ls id
-lookup-forth ls id r e = rw map-id at e
+pub held-here : (id start count : ℕ) (t : Bool) → t ≡ inRange id start count → t ≡ true → inRange id start count ≡ true
+held-here id start count t e y = sym e ∙ y
 
--- reach: how far the lines from place i on hold, from the ID on
-pub reachFrom : List ℕ → ℕ → ℕ → ℕ
-reachFrom ws i id = reachOf (linesIn (drop i ws)) id
+-- lookup_out, lookup_back
+module _ (ls : List Line) (id : ℕ) (r : LookedUp) where
+  pub lookup-forth : r ≡ lookupOf (map (facingOf false) ls) id → r .translated ≡ out ls id
+  unfolding out
+  lookup-forth e = ap (λ (a : LookedUp). a .translated) (rw map-id at e)
 
-module _ (ws : List ℕ) (i id : ℕ) where
-  pub reach-starts : reachFrom ws 0 id ≡ reachOf (linesIn ws) id
-  unfolding reachFrom
-  reach-starts = refl
+  pub lookup-back : r ≡ lookupOf (map (facingOf true) ls) id → r .translated ≡ back ls id
+  unfolding out
+  lookup-back e = ap (λ (a : LookedUp). a .translated) e
 
-  reach-step : lineWords ≤ length ws - i → reachFrom ws i id ≡ reachOf (lineAt ws i ∷ linesIn (drop (i + lineWords) ws)) id
-  unfolding reachFrom
-  reach-step h = rw (lines-step ws i h)
-
-  module _ (inv : reachFrom ws 0 id ≡ reachFrom ws i id) where
-    pub reach-end : length ws - i < lineWords → 0 ≡ reachOf (linesIn ws) id
-    unfolding reachFrom reachOf
-    reach-end h = sym (inv ∙ rw (lines-end ws i h))
-
-    module _ (more : lineWords ≤ length ws - i) (l : Line) (read : l ≡ lineAt ws i) (d : ℕ) (e : (d + l .inside) % 2 ^ 32 ≡ id) (h : d < 2 ^ 32) (k : l .inside < 2 ^ 32) where
-      reach-at : reachFrom ws i id ≡ cond (ltb d (l .count)) (l .count - d) (reachFrom ws (i + lineWords) id)
-      unfolding reachFrom reachOf
-      reach-at =
-          reach-step more
-          ∙ ap (λ (m : Line). reachOf (m ∷ linesIn (drop (i + lineWords) ws)) id) (sym read)
-          ∙ ap (λ (n : ℕ). cond (ltb n (l .count)) (l .count - n) (reachFrom ws (i + lineWords) id)) (sym (less-is id (l .inside) d e h k))
-
-      pub reach-hit : d < l .count → l .count - d ≡ reachOf (linesIn ws) id
-      unfolding reachFrom
-      reach-hit y = sym (inv ∙ reach-at ∙ rw (lt-ltb d (l .count) y))
-
-      pub reach-miss : l .count ≤ d → reachFrom ws 0 id ≡ reachFrom ws (i + lineWords) id
-      reach-miss n = inv ∙ reach-at ∙ rw (le-ltb d (l .count) n)
+  pub reach-forth : r ≡ lookupOf (map (facingOf false) ls) id → r .reach ≡ reachOf ls id
+  unfolding reachOf
+  reach-forth e = ap (λ (a : LookedUp). a .reach) (rw map-id at e)
 
 pub ruleset lookups = (
   in-range-is,
   facing-flip,
   facing-same,
-  out-starts,
-  first-end,
-  first-hit,
-  first-miss,
+  held-left,
+  held-is,
+  lookup-starts,
+  lookup-end,
+  lookup-hit,
+  lookup-miss,
+  held-here,
   lookup-forth,
-  reach-starts,
-  reach-end,
-  reach-hit,
-  reach-miss,
+  lookup-back,
   needs,
 )

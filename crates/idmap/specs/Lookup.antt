@@ -1,21 +1,50 @@
 -- What the lines of one map make of an ID. Assumes nothing.
-use Prim.Native.Nat.{ℕ, _-_}
+use Prim.Native.Nat.{ℕ, _+_, _-_, _<_}
+use mathlib.Core.Path.{_≡_}
 use mathlib.Core.Bool.{Bool, true, false, cond}
 use mathlib.Core.List.{List, [], _∷_, map}
+use mathlib.Core.Logic.{_↔_}
+use lib.ListN.{length, getD}
 use Rattle.idmap.specs.declared.Line.{Line}
+use Rattle.idmap.specs.declared.LookedUp.{LookedUp}
 use Rattle.idmap.specs.declared.Translated.{Translated}
 use Rattle.idmap.specs.declared.Translated.the-variants.{Id, Unmapped}
-use Rattle.idmap.specs.Line.{less, more, inRange}
-use Rattle.idmap.specs.Good.{noId}
+use Rattle.idmap.specs.Line.{less, more, inRange, noLine}
+use Rattle.idmap.specs.Good.{noId, Within}
 
 -- the ID that a line gives for an ID that it holds: the offset is added to the parent start
 abbrev pub movedBy : Line → ℕ → ℕ
 movedBy l id = more (l .parent) (less id (l .inside))
 
--- document 01: going out. The first line that holds the ID says what it becomes; an ID in no line has no translation
+-- how many IDs, from one that a line holds to the line's end, are in the line
+abbrev pub leftFrom : Line → ℕ → ℕ
+leftFrom l id = l .count - less id (l .inside)
+
+-- what a line answers for an ID that it holds, and what is answered for an ID that no line holds
+abbrev pub heldBy : Line → ℕ → LookedUp
+heldBy l id = record { translated = Id (movedBy l id); reach = leftFrom l id }
+
+abbrev pub heldByNone : LookedUp
+heldByNone = record { translated = Unmapped; reach = 0 }
+
+-- the first answer where the test holds, else the second
+abbrev pub either : Bool → LookedUp → LookedUp → LookedUp
+either t a b = record { translated = cond t (a .translated) (b .translated); reach = cond t (a .reach) (b .reach) }
+
+-- a lookup: the first line that holds the ID answers
+unfoldable pub lookupOf : List Line → ℕ → LookedUp
+lookupOf [] id = heldByNone
+lookupOf (l ∷ ls) id = either (inRange id (l .inside) (l .count)) (heldBy l id) (lookupOf ls id)
+
+-- document 01: going out; an ID in no line has no translation
 unfoldable pub out : List Line → ℕ → Translated
-out [] id = Unmapped
-out (l ∷ ls) id = cond (inRange id (l .inside) (l .count)) (Id (movedBy l id)) (out ls id)
+unfolding lookupOf
+out ls id = lookupOf ls id .translated
+
+-- document 02, L5: how many IDs, from this one to the end of its line, translate by the same offset; 0 where unmapped
+unfoldable pub reachOf : List Line → ℕ → ℕ
+unfolding lookupOf
+reachOf ls id = lookupOf ls id .reach
 
 -- what follows an ID, or unmapped where there is none
 abbrev pub thenId : Translated → (ℕ → Translated) → Translated
@@ -47,7 +76,12 @@ facingOf false l = l
 abbrev pub back : List Line → ℕ → Translated
 back ls id = out (map flip ls) id
 
--- how many IDs, from this one to the end of the first line that holds it, are in that line; 0 where no line holds it
-unfoldable pub reachOf : List Line → ℕ → ℕ
-reachOf [] id = 0
-reachOf (l ∷ ls) id = cond (inRange id (l .inside) (l .count)) (l .count - less id (l .inside)) (reachOf ls id)
+-- ---- what a lookup's count says, by a law
+-- document 02, L5: a line holds n of the IDs from x on, x among them, and no further one; and each of the n translates
+-- by the same offset as x, which becomes y
+pub record Reaches (ls : List Line) (x y n : ℕ) : Type 0 where
+  pub which : ℕ
+  pub in-range : which < length ls
+  pub some : 0 < n
+  pub in-line : (i : ℕ) → (i < n) ↔ Within (x + i) (getD ls which noLine .inside) (getD ls which noLine .count)
+  pub same-offset : (i : ℕ) → i < n → out ls (x + i) ≡ Id (y + i)

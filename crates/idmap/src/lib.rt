@@ -39,8 +39,15 @@ pub const NO_LINE: Line = Line {
     count: 0,
 };
 
-// What a lookup finds.
+// What an ID becomes.
 pub enum Translated {
     Id(u32),
     Unmapped,
+}
+
+// What a lookup answers: what the ID becomes, and how many IDs, from this one to the end of its line, translate by the
+// same offset. Where the ID is unmapped there are none.
+pub struct LookedUp {
+    pub translated: Translated,
+    pub reach: u32,
 }

@@ -1,12 +1,14 @@
 // Lookups through the lines of one map, which stand in lent words, three to a line.
 ghost use mathlib.Core.Path.{_≡_};
+ghost use mathlib.Core.Bool.{true};
 ghost use mathlib.Core.List.{map};
 ghost use Prim.Native.Nat.{_+_, _<_};
 ghost use lib.ListN.{length};
 ghost use Rattle.idmap.specs.Line.{inRange, lineAt, linesIn};
-ghost use Rattle.idmap.specs.Lookup.{facingOf, movedBy, out, back, idOr, reachOf};
+ghost use Rattle.idmap.specs.Lookup.{facingOf, heldBy, lookupOf, out, back, idOr};
 use crate::LINE_WORDS;
 use crate::Line;
+use crate::LookedUp;
 use crate::TWO_TO_32;
 use crate::Translated;
 
@@ -44,40 +46,50 @@ pub(crate) fn facing(l: Line, backward: bool) -> Line
     }
 }
 
-// The ID that `l` gives for an `id` that it holds.
-fn moved(l: Line, id: u32) -> u32
-    ensures { λ r. ⌜ r ≡ movedBy l id ⌝ }
+// What `l` answers for an `id` that it holds.
+fn held(l: Line, id: u32) -> LookedUp
+    requires { ⌜ inRange id (l .inside) (l .count) ≡ true ⌝ }
+    ensures { λ r. ⌜ r ≡ heldBy l id ⌝ }
 {
-    std::num::wrapping_add_u32(l.parent, std::num::wrapping_sub_u32(id, l.inside))
+    let offset = std::num::wrapping_sub_u32(id, l.inside);
+    LookedUp {
+        translated: Translated::Id(std::num::wrapping_add_u32(l.parent, offset)),
+        reach: l.count - offset,
+    }
 }
 
-// What the first line that holds `id` makes of it, read out of the namespace or back into it.
-fn first(words: &[u64], id: u32, backward: bool) -> Translated
-    ensures { λ r. ⌜ r ≡ out (map (facingOf backward) (linesIn (now (words .entry)))) id ⌝ }
+// What the first line that holds `id` answers, read out of the namespace or back into it.
+pub fn lookup(words: &[u64], id: u32, backward: bool) -> LookedUp
+    ensures { λ r. ⌜ r ≡ lookupOf (map (facingOf backward) (linesIn (now (words .entry)))) id ⌝ }
 {
     let mut i: usize = 0;
     while LINE_WORDS <= words.len() - i {
         let l = facing(line_at(words, i), backward);
         if in_range(id, l.inside, l.count) {
-            return Translated::Id(moved(l, id));
+            return held(l, id);
         }
         i += LINE_WORDS;
     }
-    Translated::Unmapped
+    LookedUp {
+        translated: Translated::Unmapped,
+        reach: 0,
+    }
 }
 
 // The parent's ID for an ID inside. Linux: map_id_down.
 pub fn lookup_out(words: &[u64], id: u32) -> Translated
     ensures { λ r. ⌜ r ≡ out (linesIn (now (words .entry))) id ⌝ }
 {
-    first(words, id, false)
+    let found = lookup(words, id, false);
+    found.translated
 }
 
 // The ID inside for an ID of the parent. Linux: map_id_up.
 pub fn lookup_back(words: &[u64], id: u32) -> Translated
     ensures { λ r. ⌜ r ≡ back (linesIn (now (words .entry))) id ⌝ }
 {
-    first(words, id, true)
+    let found = lookup(words, id, true);
+    found.translated
 }
 
 // The ID that a lookup finds, or `other` where it finds none.
@@ -88,20 +100,4 @@ pub fn id_or(r: Translated, other: u32) -> u32
         Translated::Id(x) => x,
         Translated::Unmapped => other,
     }
-}
-
-// How many IDs, from `id` to the end of the first line that holds it, are in that line; 0 where no line holds it.
-pub fn reach(words: &[u64], id: u32) -> u32
-    ensures { λ r. ⌜ r ≡ reachOf (linesIn (now (words .entry))) id ⌝ }
-{
-    let mut i: usize = 0;
-    while LINE_WORDS <= words.len() - i {
-        let l = line_at(words, i);
-        let offset = std::num::wrapping_sub_u32(id, l.inside);
-        if offset < l.count {
-            return l.count - offset;
-        }
-        i += LINE_WORDS;
-    }
-    0
 }

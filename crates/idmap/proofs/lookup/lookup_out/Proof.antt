@@ -6,5 +6,5 @@ use Rattle.idmap.proofs.lookup.lookup_out.Tie as tie
 pub lookup-out-spec : {M : Type 1} → statement M
 lookup-out-spec =
     tie.close (tie.spec
-    (λ c κs. search lookups)  -- first-requires
+    (λ c κs. search lookups)  -- lookup-requires
     (λ c. search lookups))  -- returns

@@ -1,26 +1,26 @@
--- `idmap::lookup::first` meets its contract. Assumes nothing.
+-- `idmap::lookup::lookup` meets its contract. Assumes nothing.
 use mathlib.Core.Path.{_≡_}
 use Prim.Native.Nat.{_≤_, _-_}
 use lib.ListN.{length}
-use Rattle.idmap.proofs.Lookups.{outFrom, lookups}
-use Rattle.idmap.proofs.lookup.first.Statement.{statement}
-use Rattle.idmap.proofs.lookup.first.Tie as tie
+use Rattle.idmap.proofs.Lookups.{lookupFrom, lookups}
+use Rattle.idmap.proofs.lookup.lookup.Statement.{statement}
+use Rattle.idmap.proofs.lookup.lookup.Tie as tie
 
 abbrev Inv-loop : tie.InvT-loop
-Inv-loop words id backward i₀ i = (i ≤ length words) × (outFrom backward words 0 id ≡ outFrom backward words i id)
+Inv-loop words id backward i₀ i = (i ≤ length words) × (lookupFrom backward words 0 id ≡ lookupFrom backward words i id)
 
 abbrev μ-loop : tie.MeasureT-loop
 μ-loop words id backward i₀ i = length words - i
 
-pub first-spec : {M : Type 1} → statement M
-first-spec =
+pub lookup-spec : {M : Type 1} → statement M
+lookup-spec =
     tie.close (tie.spec Inv-loop μ-loop
     (λ c. search lookups)  -- loop-holds
     (λ c. search lookups)  -- sub-loop
     (λ c κs. search lookups)  -- line-at-requires
     (λ c κs. search lookups)  -- facing-requires
     (λ c κs. search lookups)  -- in-range-requires
-    (λ c κs. search lookups)  -- moved-requires
+    (λ c κs. search lookups)  -- held-requires
     (λ c. search lookups)  -- returns
     (λ c. search lookups)  -- add-i
     (λ c. search lookups)  -- loop-less
