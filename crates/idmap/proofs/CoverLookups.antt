@@ -13,7 +13,7 @@ use Rattle.idmap.specs.declared.Line.{Line}
 use Rattle.idmap.specs.declared.cover.Coverage.{Coverage}
 use Rattle.idmap.specs.Line.{less, more, inRange}
 use Rattle.idmap.specs.Lookup.{leftFrom, reachOf}
-use Rattle.idmap.specs.Cover.{coveredIn, coverOf}
+use Rattle.idmap.specs.Cover.{coveredIn, lookupsOf}
 use Rattle.prelude.proofs.Tests.{by-test}
 use Rattle.idmap.proofs.Reach.{reach-here, reach-later}
 use Rattle.idmap.proofs.Covers.{in-reach, nowhere, past, three-ways, step-left, more-small}
@@ -142,8 +142,8 @@ few-in (suc k) ls at last a b =
     omega arith)
 
 -- document 02, L5: for one range, at most one lookup for each line of the map and one more
-pub few-lookups : (ls : List Line) (start count : ℕ) → start < 2 ^ 32 → coverOf ls start count .lookups ≤ length ls + 1
-unfolding coverOf
+pub few-lookups : (ls : List Line) (start count : ℕ) → start < 2 ^ 32 → lookupsOf ls start count ≤ length ls + 1
+unfolding lookupsOf
 few-lookups ls start count a =
     by-test (eqb count 0)
     (λ t. rw t (omega arith))

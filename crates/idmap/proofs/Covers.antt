@@ -17,7 +17,7 @@ use Rattle.idmap.specs.declared.cover.Coverage.{Coverage}
 use Rattle.idmap.specs.Line.{less, more, inRange, noLine}
 use Rattle.idmap.specs.Lookup.{movedBy, lookupOf, out, reachOf, facingOf}
 use Rattle.idmap.specs.Good.{noId, goodOf, Within}
-use Rattle.idmap.specs.Cover.{told, further, coveredIn, coverOf, coveredOf, HasLine, Mapped}
+use Rattle.idmap.specs.Cover.{told, further, coveredIn, coveredOf, lookupsOf, coverOf, HasLine, Mapped}
 use Rattle.prelude.proofs.Tests.{by-test}
 use Rattle.idmap.proofs.Lookups.{reach-forth}
 use Rattle.idmap.proofs.Interval.{in-interval, interval-in}
@@ -120,11 +120,11 @@ after-further : (k : ℕ) (c : Coverage) → after k (further c) ≡ after (k + 
 after-further k c = let e : k + (1 + c .lookups) ≡ (k + 1) + c .lookups = omega arith in λ i. record { covered = c .covered; lookups = e i }
 
 pub cover-empty : (ls : List Line) (start count : ℕ) → count ≡ 0 → _≡_ {A = Coverage} (record { covered = true; lookups = 0 }) (coverOf ls start count)
-unfolding coverOf
+unfolding coveredOf lookupsOf
 cover-empty ls start count z = rw (eq-eqb count 0 z)
 
 cover-to : (ls : List Line) (start count last : ℕ) → start < 2 ^ 32 → count < 2 ^ 32 → (count ≡ 0 → ⊥) → last ≡ more start (count - 1) → coverOf ls start count ≡ coveredTo ls start last
-unfolding coverOf coveredTo
+unfolding coveredOf lookupsOf coveredTo
 cover-to ls start count last a b z e =
     rw (ne-eqb count 0 z, ← e) (enough count (less last start) ls start last a (rw e (more-small start (count - 1))) (rw e (whole start count a b)) (le-refl _))
 
@@ -187,7 +187,6 @@ abbrev told-of : Coverage → Bool
 told-of c = c .covered
 
 pub covered-of : (ls : List Line) (start count : ℕ) (r : Coverage) → r ≡ coverOf ls start count → r .covered ≡ coveredOf ls start count
-unfolding coveredOf
 covered-of ls start count r e = ap told-of e
 
 -- ---- what it shows of each ID of the range. In bounds nothing wraps

@@ -9,7 +9,7 @@ use Rattle.idmap.specs.declared.Line.{Line}
 use Rattle.idmap.specs.declared.Translated.the-variants.{Id, Unmapped}
 use Rattle.idmap.specs.Lookup.{lookupOf, out, reachOf, flip, back}
 use Rattle.idmap.specs.Good.{fitsOf, boundedOf, apartSide, apartOf, allApart, goodOf}
-use Rattle.idmap.specs.Cover.{coveredIn, coverOf}
+use Rattle.idmap.specs.Cover.{coveredIn, coveredOf, lookupsOf, coverOf}
 use Rattle.idmap.specs.Text.{pieces, filled, allDigits, decimal, decimalOf, numbersOf, threeOf, lineOf, textLines, checked, mapLines}
 
 abbrev line : ℕ → ℕ → ℕ → Line
@@ -51,25 +51,25 @@ counts-back = refl
 
 -- the fixed line of namespace 0 covers all but the last value
 all-covered : coverOf (line 0 0 4294967295 ∷ []) 0 4294967295 ≡ record { covered = true; lookups = 1 }
-unfolding coverOf coveredIn reachOf
+unfolding coveredIn coveredOf lookupsOf reachOf
 all-covered = refl
 
 -- a range in one line, one across two lines that touch, one that runs past them with one lookup for each line and one
 -- more, and one whose ends alone have a line
 within : coverOf adjoining 8 2 ≡ record { covered = true; lookups = 1 }
-unfolding coverOf coveredIn reachOf
+unfolding coveredIn coveredOf lookupsOf reachOf
 within = refl
 
 across : coverOf adjoining 8 4 ≡ record { covered = true; lookups = 2 }
-unfolding coverOf coveredIn reachOf
+unfolding coveredIn coveredOf lookupsOf reachOf
 across = refl
 
 too-far : coverOf adjoining 8 8 ≡ record { covered = false; lookups = 3 }
-unfolding coverOf coveredIn reachOf
+unfolding coveredIn coveredOf lookupsOf reachOf
 too-far = refl
 
 ends-only : coverOf (line 0 100000 10 ∷ line 20 100020 10 ∷ []) 5 20 ≡ record { covered = false; lookups = 2 }
-unfolding coverOf coveredIn reachOf
+unfolding coveredIn coveredOf lookupsOf reachOf
 ends-only = refl
 
 -- "0 100000 10\n10 100010 5"

@@ -12,7 +12,7 @@ use Rattle.idmap.specs.Line.{more, inRange, noLine}
 use Rattle.idmap.specs.Lookup.{out, reachOf}
 use Rattle.idmap.specs.Good.{Within}
 
--- the answer of one lookup, and the same after one lookup more
+-- the answer of one lookup, and one that takes a lookup more
 abbrev pub told : Bool → Coverage
 told b = record { covered = b; lookups = 1 }
 
@@ -30,13 +30,14 @@ coveredIn (suc k) ls at last =
 
 -- the count IDs from start on are covered, and how many lookups tell so. Each step past a line leaves at least one ID
 -- less
-unfoldable pub coverOf : List Line → ℕ → ℕ → Coverage
-coverOf ls start count =
-    cond (eqb count 0) (record { covered = true; lookups = 0 }) (coveredIn count ls start (more start (count - 1)))
-
 unfoldable pub coveredOf : List Line → ℕ → ℕ → Bool
-unfolding coverOf
-coveredOf ls start count = coverOf ls start count .covered
+coveredOf ls start count = cond (eqb count 0) true (coveredIn count ls start (more start (count - 1)) .covered)
+
+unfoldable pub lookupsOf : List Line → ℕ → ℕ → ℕ
+lookupsOf ls start count = cond (eqb count 0) 0 (coveredIn count ls start (more start (count - 1)) .lookups)
+
+abbrev pub coverOf : List Line → ℕ → ℕ → Coverage
+coverOf ls start count = record { covered = coveredOf ls start count; lookups = lookupsOf ls start count }
 
 -- ---- what coveredOf says of each single ID of the range, by a law
 -- a line holds the ID
