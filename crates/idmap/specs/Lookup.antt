@@ -20,18 +20,18 @@ movedBy l id = more (l .parent) (less id (l .inside))
 abbrev pub leftFrom : Line → ℕ → ℕ
 leftFrom l id = l .count - less id (l .inside)
 
--- what a line answers for an ID that it holds, and what is answered for an ID that no line holds
+-- what a line answers for an ID that it holds, and what is answered where no line holds it
 abbrev pub heldBy : Line → ℕ → LookedUp
 heldBy l id = record { translated = Id (movedBy l id); reach = leftFrom l id }
 
 abbrev pub heldByNone : LookedUp
 heldByNone = record { translated = Unmapped; reach = 0 }
 
--- the first answer where the test holds, else the second
+-- the first answer where the test holds, else the second, part by part
 abbrev pub either : Bool → LookedUp → LookedUp → LookedUp
 either t a b = record { translated = cond t (a .translated) (b .translated); reach = cond t (a .reach) (b .reach) }
 
--- a lookup: the first line that holds the ID answers
+-- a lookup: the first line that holds the ID says what it becomes, and how far this holds
 unfoldable pub lookupOf : List Line → ℕ → LookedUp
 lookupOf [] id = heldByNone
 lookupOf (l ∷ ls) id = either (inRange id (l .inside) (l .count)) (heldBy l id) (lookupOf ls id)

@@ -58,7 +58,9 @@ fn held(l: Line, id: u32) -> LookedUp
     }
 }
 
-// What the first line that holds `id` answers, read out of the namespace or back into it.
+// What the first line that holds `id` answers, read out of the namespace or back into it: the ID on its other side, and
+// how many IDs, from this one to the end of the line, translate by the same offset. Where no line holds `id`, it is
+// unmapped, and there are none.
 pub fn lookup(words: &[u64], id: u32, backward: bool) -> LookedUp
     ensures { λ r. ⌜ r ≡ lookupOf (map (facingOf backward) (linesIn (now (words .entry)))) id ⌝ }
 {
