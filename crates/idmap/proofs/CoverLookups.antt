@@ -50,13 +50,14 @@ is-between e d h k t = let a = ltb-true (less e 1) d t in (omega arith, omega ar
 none-between : (d : ℕ) → d < 2 ^ 32 → inRange 0 1 d ≡ false
 none-between d h = le-ltb (less 0 1) d (omega arith)
 
--- .. which is n more
+-- with n more, one from 1 to d less n is one from 1 to d
 still-between : (e e′ d n : ℕ) → e ≡ more e′ n → e′ < 2 ^ 32 → n ≤ d → d < 2 ^ 32 → inRange e′ 1 (d - n) ≡ true → inRange e 1 d ≡ true
 still-between e e′ d n q h a b t =
     let p = is-between e′ (d - n) h (omega arith) t in
     let r : e ≡ e′ + n = q ∙ mod-eq-of-lt (omega arith) in
     between e d (omega arith) (omega arith) (omega arith)
 
+-- n more than nothing
 no-more : (e n : ℕ) → n ≡ more e n → e < 2 ^ 32 → n < 2 ^ 32 → e ≡ 0
 no-more e n q h k = omega arith
 
@@ -125,6 +126,7 @@ endings-most (l ∷ ls) at last =
     (λ t. rw t (omega arith))
     (λ t. rw t (omega arith))
 
+-- ---- each lookup but the last leaves one such end behind
 abbrev count-of : Coverage → ℕ
 count-of c = c .lookups
 

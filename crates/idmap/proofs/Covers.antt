@@ -128,7 +128,7 @@ unfolding coveredOf lookupsOf coveredTo
 cover-to ls start count last a b z e =
     rw (ne-eqb count 0 z, ← e) (enough count (less last start) ls start last a (rw e (more-small start (count - 1))) (rw e (whole start count a b)) (le-refl _))
 
--- what a turn keeps. There are fewer lookups than IDs, so that they can be counted
+-- what a turn keeps. There are fewer lookups than IDs, so that their number has room
 pub record Going (ls : List Line) (start count last at k : ℕ) : Type 0 where
   pub small : at < 2 ^ 32
   pub end : last < 2 ^ 32
