@@ -34,8 +34,9 @@ less-on c z n a b =
     let e : c + (2 ^ 32 - (z + n - 2 ^ 32)) + n ≡ c + (2 ^ 32 - z) + 2 ^ 32 = omega arith in
     rw w (sym (mod-add-mod (c + (2 ^ 32 - (z + n - 2 ^ 32))) (2 ^ 32) n ∙ ap (λ (k : ℕ). k % 2 ^ 32) e ∙ add-mod-right (c + (2 ^ 32 - z)) (2 ^ 32))))
 
-less-is : (c z n : ℕ) → z < c → c - z ≡ n → n < 2 ^ 32 → z < 2 ^ 32 → less c z ≡ n
-less-is c z n a e b h = omega arith
+-- where c is the larger of the two, it is what is left of it
+less-left : (c z n : ℕ) → z < c → c - z ≡ n → n < 2 ^ 32 → z < 2 ^ 32 → less c z ≡ n
+less-left c z n a e b h = omega arith
 
 less-small : (c z : ℕ) → less c z < 2 ^ 32
 less-small c z = omega arith
@@ -105,7 +106,7 @@ module _ (at last n : ℕ) (small : at < 2 ^ 32) (end : last < 2 ^ 32) (h : n �
   ending-left : (l : Line) → inRange at (l .inside) (l .count) ≡ true → leftFrom l at ≡ n → (n ≡ 0 → ⊥) → ending l (more at n) last + 1 ≤ ending l at last
   unfolding ending
   ending-left l t e z =
-      let before : toEnd l at ≡ n = less-is (l .count) (less at (l .inside)) n (ltb-true (less at (l .inside)) (l .count) t) e n-small (less-small _ _) in
+      let before : toEnd l at ≡ n = less-left (l .count) (less at (l .inside)) n (ltb-true (less at (l .inside)) (l .count) t) e n-small (less-small _ _) in
       let after : toEnd l (more at n) ≡ 0 = no-more (toEnd l (more at n)) n (sym before ∙ nearer at n n-small l) (less-small _ _) n-small in
       rw (before, after, between n (less last at) (omega arith) h n-small, none-between (less last (more at n)) (less-small _ _)) (le-refl 1)
 

@@ -155,6 +155,9 @@ module _ (ls : List Line) (start count last at k : ℕ) (inv : Going ls start co
           let h = ltb-false (less last at) (f .reach) (sym tested ∙ y) in
           rw e (fewer-still (step-left at last (f .reach) (inv .small) (inv .end) h) z h)
 
+      pub going-keeps-room : (k + 1) + less last next < 2 ^ 32
+      going-keeps-room = omega (arith, inv .room, going-nearer)
+
     module _ (read : f ≡ lookupOf (map (facingOf false) ls) at) where
       reach-is : f .reach ≡ reachOf ls at
       reach-is = reach-forth ls at f read
@@ -171,12 +174,11 @@ module _ (ls : List Line) (start count last at k : ℕ) (inv : Going ls start co
 
         pub going-on : (next : ℕ) → (f .reach ≡ 0 → ⊥) → next ≡ more at (f .reach) → Going ls start count last next (k + 1)
         going-on next z e =
-            let nearer = going-nearer y z next e in
             let m : next ≡ more at (reachOf ls at) = rw reach-is at e in
             record {
               small = rw e (more-small at (f .reach));
               end = inv .end;
-              room = omega (arith, inv .room, nearer);
+              room = going-keeps-room y z next e;
               answer =
                   inv .answer
                   ∙ ap (after k) (past-to ls at last (inv .small) (inv .end) (tested-reach ∙ y) (λ q. z (reach-is ∙ q)))
@@ -281,6 +283,7 @@ pub ruleset covers = (
   going-starts,
   going-room,
   going-nearer,
+  going-keeps-room,
   going-yes,
   going-no,
   going-on,
