@@ -8,18 +8,18 @@ use reference::{Answer, Call, Direction};
 
 use crate::kernel;
 use crate::measure::time;
-use crate::state::{self, Maps, State, FIVE_BELOW, FIVE_LINES, ONE_LINE};
+use crate::state::{self, State, FIVE_BELOW, FIVE_LINES, ONE_LINE};
 use crate::table::{Kernel, Row};
 
 /// Goals in nanoseconds: of a call, of a read or write of a map, and of a translation through at most eight levels.
-pub const CALL: f64 = 200.0;
+const CALL: f64 = 200.0;
 const MAP: f64 = 1000.0;
 const TRANSLATION: f64 = 100.0;
 
 /// Calls in a batch, where a call can be repeated in the state that it leaves.
 const REPEATED: usize = 500;
 /// Calls in a batch, where each has a process or a namespace of its own.
-pub const ONCE: usize = 32;
+const ONCE: usize = 32;
 
 /// The root of the first namespace of the common state, and that namespace.
 const ROOT: u64 = 2;
@@ -34,7 +34,7 @@ const LAST_LEVEL: u64 = 32;
 
 /// Times one call on both implementations. `calls` are those of a batch, and `call` makes the one of a number through
 /// the bindings and answers whether it is done.
-pub fn row(
+fn row(
     name: &str,
     goal: f64,
     state: &State,
@@ -63,7 +63,7 @@ pub fn row(
     }
 }
 
-pub fn repeated(call: Call) -> Vec<Call> {
+fn repeated(call: Call) -> Vec<Call> {
     vec![call; REPEATED]
 }
 
@@ -79,16 +79,10 @@ pub fn rows() -> Vec<Row> {
     rows.extend(credentials());
     rows.extend(questions());
     let (last, any) = (Ids::LastLine, Ids::AnyLine);
-    let whole = Maps::Whole;
-    rows.extend(translations(1, "1 level", whole, last, TRANSLATION));
-    rows.extend(translations(8, "8 levels", whole, last, TRANSLATION));
-    rows.extend(translations(8, "8 levels, IDs of any line", whole, any, TRANSLATION));
-    rows.extend(translations(LAST_LEVEL, "32 levels", whole, last, CALL));
-    rows.extend(translations(8, "8 levels across", Maps::Across, last, TRANSLATION));
-    rows.extend(translations(LAST_LEVEL, "32 levels across", Maps::Across, last, CALL));
-    let each = Maps::EachAcross;
-    rows.extend(translations(8, "8 levels, each across", each, last, TRANSLATION));
-    rows.extend(translations(LAST_LEVEL, "32 levels, each across", each, last, CALL));
+    rows.extend(translations(1, "1 level", last, TRANSLATION));
+    rows.extend(translations(8, "8 levels", last, TRANSLATION));
+    rows.extend(translations(8, "8 levels, IDs of any line", any, TRANSLATION));
+    rows.extend(translations(LAST_LEVEL, "32 levels", last, CALL));
     rows
 }
 
@@ -140,7 +134,7 @@ fn with_unmapped(mut state: State, caller: u64) -> (State, Vec<u64>) {
     (state, members)
 }
 
-pub fn write_map(name: &str, state: State, caller: u64, text: &str, kernel: Kernel) -> Row {
+fn write_map(name: &str, state: State, caller: u64, text: &str, kernel: Kernel) -> Row {
     let (state, members) = with_unmapped(state, caller);
     let calls = for_each(&members, |process| Call::WriteMap {
         kind: reference::Kind::User,
@@ -177,7 +171,7 @@ fn writes() -> Vec<Row> {
     ]
 }
 
-pub fn read_map(name: &str, state: &State, caller: u64, process: u64, kernel: Kernel) -> Row {
+fn read_map(name: &str, state: &State, caller: u64, process: u64, kernel: Kernel) -> Row {
     let buffer = vec![0; MAP_BUFFER];
     let call = Call::ReadMap { kind: reference::Kind::User, caller, process, buffer };
     row(name, MAP, state, kernel, repeated(call), |t, _| {
@@ -227,7 +221,7 @@ fn set_ids(
     row(name, CALL, state, kernel, calls, |t, i| t.set_ids(kinds.0, caller, ids(i)).is_ok())
 }
 
-pub fn set_groups(name: &str, state: &State, caller: u64, groups: &[u32], kernel: Kernel) -> Row {
+fn set_groups(name: &str, state: &State, caller: u64, groups: &[u32], kernel: Kernel) -> Row {
     let call = Call::Setgroups { caller, groups: groups.to_vec() };
     row(name, CALL, state, kernel, repeated(call), |t, _| t.setgroups(caller, groups).is_ok())
 }
@@ -252,13 +246,6 @@ fn credentials() -> Vec<Row> {
             &state::sixteen_groups(),
             Kernel::None,
         ),
-        set_groups(
-            "setgroups, 16 groups, 8 levels, each across",
-            &State::nested(8, Maps::EachAcross),
-            9,
-            &state::sixteen_groups(),
-            Kernel::None,
-        ),
         row(
             "capset",
             CALL,
@@ -270,7 +257,7 @@ fn credentials() -> Vec<Row> {
     ]
 }
 
-pub fn own_ids(name: &str, state: &State, caller: u64, kernel: Kernel) -> Row {
+fn own_ids(name: &str, state: &State, caller: u64, kernel: Kernel) -> Row {
     row(name, CALL, state, kernel, repeated(Call::GetIds { caller }), |t, _| {
         black_box(t.getids(caller)).is_ok()
     })
@@ -292,19 +279,7 @@ fn questions() -> Vec<Row> {
         own_ids("getids, 4 groups", &common, ROOT, three_calls),
         own_ids(
             "getids, 16 groups, 8 levels",
-            &State::nested(8, Maps::Whole).with_own_ids(9),
-            9,
-            Kernel::None,
-        ),
-        own_ids(
-            "getids, 16 groups, 8 levels across",
-            &State::nested(8, Maps::Across).with_own_ids(9),
-            9,
-            Kernel::None,
-        ),
-        own_ids(
-            "getids, 16 groups, 8 levels, each across",
-            &State::nested(8, Maps::EachAcross).with_own_ids(9),
+            &State::deep(8).with_own_ids(9),
             9,
             Kernel::None,
         ),
@@ -330,11 +305,11 @@ fn offsets(ids: Ids) -> Vec<u32> {
     (0..REPEATED).map(offset).collect()
 }
 
-/// Translations at a depth, which the words name, with such maps from level 2 on.
-fn translations(levels: u64, words: &str, maps: Maps, ids: Ids, goal: f64) -> Vec<Row> {
+/// Translations at a depth, which the words name.
+fn translations(levels: u64, words: &str, ids: Ids, goal: f64) -> Vec<Row> {
     let inside = offsets(ids);
     let kernel: Vec<u32> = inside.iter().map(|id| state::kernel_id(*id)).collect();
-    let state = State::nested(levels, maps);
+    let state = State::deep(levels);
     let row_of = |name: &str, way: Way, direction: Direction, ids: &[u32]| {
         let kind = reference::Kind::User;
         let call =

@@ -1,8 +1,6 @@
 //! Times each call on the archive, on the reference program and, where it has one, on the host kernel, and prints one
-//! table. Times are nanoseconds of one call; 'times' says how many times the archive's the time before it is. With
-//! the argument `across` the calls are those through many levels of maps that run across at each level.
+//! table. Times are nanoseconds of one call; 'times' says how many times the archive's the time before it is.
 
-mod across;
 mod cases;
 mod kernel;
 mod measure;
@@ -13,9 +11,7 @@ mod table;
 const ROUNDS: usize = 15;
 
 fn main() {
-    let across = std::env::args().nth(1).is_some_and(|word| word == "across");
-    let rows = if across { across::rows } else { cases::rows };
-    let rounds: Vec<Vec<table::Row>> = (0..ROUNDS).map(|_| rows()).collect();
+    let rounds: Vec<Vec<table::Row>> = (0..ROUNDS).map(|_| cases::rows()).collect();
     table::print(&table::medians(&rounds));
     if let Ok(load) = std::fs::read_to_string("/proc/loadavg") {
         println!("load average: {}", load.trim());

@@ -24,35 +24,6 @@ pub const LAST_LINE_ID: u32 = 4500;
 /// The most supplementary groups of a process.
 pub const MAX_GROUPS: u32 = 16;
 
-/// The maps of five lines from level 2 on.
-#[derive(Clone, Copy)]
-pub enum Maps {
-    /// Each line lies whole in one line of the map above.
-    Whole,
-    /// At level 2, each of the first four lines runs across two lines of the map above.
-    Across,
-    /// At each level, each of the first four lines runs across two lines of the map above.
-    EachAcross,
-}
-
-impl Maps {
-    fn text(self, level: u64) -> String {
-        match self {
-            Maps::Whole => FIVE_BELOW.to_string(),
-            Maps::Across => five_lines(15),
-            Maps::EachAcross => five_lines(15 * (level - 1)),
-        }
-    }
-}
-
-/// A map of five lines on the same IDs as `FIVE_BELOW`, each but the first starting so much later.
-fn five_lines(later: u64) -> String {
-    let start = |line: u64| if line == 0 { 0 } else { line * 1000 + later };
-    let end = |line: u64| if line == 4 { 5000 } else { start(line + 1) };
-    let line = |line| format!("{0} {0} {1}\n", start(line), end(line) - start(line));
-    (0..5).map(line).collect()
-}
-
 /// The same tables in both implementations.
 #[derive(Clone)]
 pub struct State {
@@ -122,15 +93,9 @@ impl State {
     /// Namespaces one below the other with maps of five lines; the process at each level has the number one above it.
     /// The deepest one's has sixteen supplementary groups.
     pub fn deep(levels: u64) -> State {
-        State::nested(levels, Maps::Whole)
-    }
-
-    /// The same with such maps from level 2 on.
-    pub fn nested(levels: u64, maps: Maps) -> State {
         let mut state = State::initial();
         for level in 1..=levels {
-            let text = if level == 1 { FIVE_LINES.to_string() } else { maps.text(level) };
-            state.child_with_maps(level, &text);
+            state.child_with_maps(level, if level == 1 { FIVE_LINES } else { FIVE_BELOW });
         }
         state.make(Call::Setgroups { caller: levels + 1, groups: sixteen_groups() });
         state
@@ -138,7 +103,7 @@ impl State {
 
     /// The same state with three different IDs of each kind for a process, all in the last of five lines.
     pub fn with_own_ids(mut self, caller: u64) -> State {
-        let ids = own_ids_of_last_line();
+        let ids = [LAST_LINE_ID, LAST_LINE_ID + 1, LAST_LINE_ID + 2];
         for kind in [Kind::Group, Kind::User] {
             self.make(Call::SetIds { kind, caller, ids });
         }
@@ -149,11 +114,6 @@ impl State {
 /// The kernel ID of an ID through maps of five lines, at any level.
 pub fn kernel_id(inside: u32) -> u32 {
     100_000 + inside / 1000 * 2000 + inside % 1000
-}
-
-/// Three different IDs of the last of five lines.
-pub fn own_ids_of_last_line() -> [u32; 3] {
-    [LAST_LINE_ID, LAST_LINE_ID + 1, LAST_LINE_ID + 2]
 }
 
 /// Sixteen groups of the last of five lines.

@@ -188,6 +188,27 @@ static void levels_reach_32(void)
     CHECK(oarhatchet_translate_uid_out(tables, 1, LEVELS, 5), 5);
 }
 
+/* Document 02, L6. */
+static void a_range_lies_whole_in_one_parent_line(void)
+{
+    const char *lines = "0 100000 10\n10 100010 5\n";
+    uint64_t space = 0;
+
+    oarhatchet_initial(tables);
+    CHECK(oarhatchet_clone(tables, 1, &space), 2);
+    CHECK(write_uid_map(1, 2, lines), 0);
+    CHECK(write_gid_map(1, 2, lines), 0);
+    CHECK(oarhatchet_setresgid(tables, 2, 0, 0, 0), 0);
+    CHECK(oarhatchet_setresuid(tables, 2, 0, 0, 0), 0);
+    CHECK(oarhatchet_clone(tables, 2, &space), 3);
+    CHECK(write_uid_map(2, 3, "0 8 4"), -OARHATCHET_EPERM);
+    CHECK(write_uid_map(2, 3, "0 8 2"), 0);
+    CHECK(oarhatchet_translate_uid_out(tables, 1, 2, 1), 100009);
+    CHECK(oarhatchet_translate_uid_out(tables, 1, 2, 2), OARHATCHET_UNMAPPED);
+    CHECK(write_gid_map(2, 3, "0 10 6"), -OARHATCHET_EPERM);
+    CHECK(write_gid_map(2, 3, "0 10 5"), 0);
+}
+
 static void full_tables_refuse(void)
 {
     uint64_t space = 0;
@@ -462,6 +483,7 @@ int main(void)
     an_unmapped_process_makes_no_namespace();
     the_owner_in_the_parent_holds_capabilities();
     levels_reach_32();
+    a_range_lies_whole_in_one_parent_line();
     full_tables_refuse();
     own_ids_and_sets();
     names_that_name_nothing();

@@ -72,7 +72,7 @@ pub enum Rule {
     NotOwnId,
     NotOwner,
     SetgroupsNotDenied,
-    ParentSideUnmapped,
+    ParentSideNotWhole,
     NotAllowOrDeny,
     DenyAfterGroupMap,
     AllowAfterDeny,
@@ -114,7 +114,7 @@ impl Rule {
             | NotOwnId
             | NotOwner
             | SetgroupsNotDenied
-            | ParentSideUnmapped
+            | ParentSideNotWhole
             | DenyAfterGroupMap
             | AllowAfterDeny
             | IdNotPresent

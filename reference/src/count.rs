@@ -50,7 +50,7 @@ const WRITE_MAP: [Rule; 24] = [
     NotCountOne,
     NotOwnId,
     NotOwner,
-    ParentSideUnmapped,
+    ParentSideNotWhole,
     SetgroupsNotDenied,
 ];
 const WRITE_USER_MAP: &[Rule] = WRITE_MAP.split_at(23).0;

@@ -48,7 +48,7 @@ impl Tables {
         Ok(Answer::Done)
     }
 
-    /// Whether the writer may write these lines, and the parent's map has them all.
+    /// Whether the writer may write these lines, and the parent's map has each of them.
     fn check_lines(
         &self,
         kind: Kind,
@@ -61,10 +61,10 @@ impl Tables {
         if !self.holds(writer, capability_over(kind), parent) {
             self.maps_only_itself(kind, writer, target, parent, lines)?;
         }
-        // "1 if any parent-side ID has no line in the parent's map"
+        // L6: "1 unless each new line's parent side lies whole in one parent line"
         let above = self.namespaces[&parent].map(kind);
-        if lines.iter().any(|line| !above.covers(line.parent, line.count)) {
-            return Err(Rule::ParentSideUnmapped);
+        if lines.iter().any(|line| !above.has_whole(line.parent, line.count)) {
+            return Err(Rule::ParentSideNotWhole);
         }
         Ok(())
     }

@@ -90,21 +90,10 @@ impl IdMap {
         Some(line.inside + (id - line.parent))
     }
 
-    /// Whether every ID from `start` on, `count` of them, is on the inside of some line.
-    pub fn covers(&self, start: u32, count: u32) -> bool {
+    /// Whether one line has the whole range of `count` IDs from `start` on.
+    pub fn has_whole(&self, start: u32, count: u32) -> bool {
         let end = u64::from(start) + u64::from(count);
-        let mut next = u64::from(start);
-        while next < end {
-            match self
-                .lines()
-                .iter()
-                .find(|line| u64::from(line.inside) <= next && next < line.inside_end())
-            {
-                Some(line) => next = line.inside_end(),
-                None => return false,
-            }
-        }
-        true
+        self.lines().iter().any(|line| line.inside <= start && end <= line.inside_end())
     }
 }
 

@@ -54,7 +54,7 @@ fn a_map_write_refuses_in_order() {
 }
 
 #[test]
-fn every_parent_side_id_has_a_line() {
+fn each_parent_side_lies_in_one_line() {
     let nested = r#"
         fresh => fresh
         clone 1 => child 2 namespace 1
@@ -65,14 +65,17 @@ fn every_parent_side_id_has_a_line() {
     let write = |text: &str, answer: &str| {
         check(&format!("{nested}\nwrite-uid-map 2 3 \"{text}\" => {answer}"));
     };
-    write("0 0 20", "done");
-    write("0 30 10", "done");
-    write("0 0 21", "refused 1 EPERM");
-    write("0 15 20", "refused 1 EPERM");
-    write("0 29 2", "refused 1 EPERM");
+    for text in ["0 0 10", "0 10 10", "0 30 10", "0 19 1", r"0 30 10\n10 0 10\n20 10 10"] {
+        write(text, "done");
+    }
+    // Across lines that adjoin, across a gap, past an end, before a start, in no line.
+    for text in ["0 0 20", "0 9 2", "0 15 20", "0 19 2", "0 29 2", "0 20 1"] {
+        write(text, "refused 1 EPERM");
+    }
     check(&format!(
         r#"{nested}
-        write-uid-map 2 3 "100 5 10" => done
+        write-uid-map 2 3 "100 5 10" => refused 1 EPERM
+        write-uid-map 2 3 "105 10 5\n100 5 5" => done
         translate-uid-out 1 2 104 => id 9
         translate-uid-out 1 2 105 => id 500
         translate-uid-back 1 2 504 => id 109

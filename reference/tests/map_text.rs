@@ -64,7 +64,7 @@ fn lookups_go_there_and_back() {
     assert_eq!(map.to_parent(NO_ID), None);
     assert_eq!(map.from_parent(11), Some(NO_ID - 1));
     assert_eq!(map.from_parent(12), None);
-    assert!(map.covers(10, 5) && !map.covers(10, 6) && !map.covers(9, 1));
+    assert!(map.has_whole(10, 5) && !map.has_whole(10, 6) && !map.has_whole(9, 1));
     assert_eq!(IdMap::Unwritten.to_parent(0), None);
     assert_eq!(IdMap::initial().to_parent(NO_ID), None);
 }

@@ -1,4 +1,4 @@
-//! The scenarios of document 01 (its bench runs), in its order.
+//! The scenarios of document 01 (its bench runs), in its order, and those of document 02.
 
 mod common;
 
@@ -127,6 +127,34 @@ fn levels_reach_32() {
     check(&(descend(last - 1) + &format!("unshare 32 => namespace 32\ngetids 32 => {below}")));
     check(&(descend(last) + "unshare 33 => refused 87 EUSERS\nclone 33 => refused 87 EUSERS"));
     check(&(descend(last) + "capable 1 32 0 => yes\ncapable 33 31 0 => no\nsetns 1 32 => done"));
+}
+
+/// Document 02, L6, with lines that end where the parent's line does, one later, and one ID before it starts.
+#[test]
+fn a_range_lies_whole_in_one_parent_line() {
+    let lines = r"0 100000 10\n10 100010 5";
+    check(&format!(
+        r#"
+        fresh => fresh
+        clone 1 => child 2 namespace 1
+        write-uid-map 1 2 "{lines}" => done
+        write-gid-map 1 2 "{lines}" => done
+        setresgid 2 0 0 0 => done
+        setresuid 2 0 0 0 => done
+        clone 2 => child 3 namespace 2
+        write-uid-map 2 3 "0 8 4" => refused 1 EPERM
+        write-uid-map 2 3 "0 0 15" => refused 1 EPERM
+        write-uid-map 2 3 "0 10 6" => refused 1 EPERM
+        write-uid-map 2 3 "0 9 6" => refused 1 EPERM
+        write-uid-map 2 3 "0 8 2" => done
+        translate-uid-out 1 2 1 => id 100009
+        translate-uid-out 1 2 2 => unmapped
+        write-gid-map 2 3 "0 11 4\n4 9 2" => refused 1 EPERM
+        write-gid-map 2 3 "0 10 5\n5 0 10" => done
+        translate-gid-out 1 2 4 => id 100014
+        translate-gid-out 1 2 14 => id 100009
+        "#
+    ));
 }
 
 #[test]

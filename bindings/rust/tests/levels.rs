@@ -1,6 +1,5 @@
-//! Translation of IDs and of lists through 32 levels of random maps, against the reference program. The maps of a
-//! level cut the IDs into up to five pieces and put them into another order, so that their lines run across those
-//! above at random places.
+//! Translation of IDs and of lists through 32 levels of random maps, against the reference program. A map cuts the lines
+//! of the map above into up to five pieces and puts them into another order.
 
 use oarhatchet::{Tables, NO_ID};
 use reference::random::Random;
@@ -19,29 +18,59 @@ const LEVELS: u64 = 32;
 const CHAINS: u64 = 300;
 const KINDS: [Kind; 2] = [Kind::User, Kind::Group];
 
-/// A map of the IDs to as many in another order, for a level.
-fn map_text(random: &mut Random, level: u64) -> String {
-    let mut cuts: Vec<u64> = (0..random.below(5)).map(|_| 1 + random.below(IDS - 1)).collect();
-    cuts.extend([0, IDS]);
-    cuts.sort_unstable();
-    cuts.dedup();
-    let mut pieces: Vec<(u64, u64)> = cuts.windows(2).map(|w| (w[0], w[1] - w[0])).collect();
+/// The most lines of a map.
+const MAX_LINES: u64 = 5;
+
+/// A start and a count.
+type Range = (u64, u64);
+
+/// Cuts one of the ranges in two.
+fn cut(random: &mut Random, ranges: &mut Vec<Range>) {
+    let place = random.index(ranges.len());
+    let (start, count) = ranges[place];
+    if count > 1 {
+        let first = 1 + random.below(count - 1);
+        ranges[place] = (start, first);
+        ranges.push((start + first, count - first));
+    }
+}
+
+/// A map of all the ranges above, cut further and in another order, and its ranges on the inside.
+fn map_text(random: &mut Random, above: &[Range]) -> (String, Vec<Range>) {
+    let mut pieces = above.to_vec();
+    for _ in 0..random.below(1 + MAX_LINES - above.len() as u64) {
+        cut(random, &mut pieces);
+    }
     for last in (1..pieces.len()).rev() {
         pieces.swap(last, random.index(last + 1));
     }
-    let mut parent = if level == 1 { KERNEL } else { 0 };
-    let mut text = String::new();
-    for (inside, count) in pieces {
+    let (mut text, mut ranges) = (String::new(), Vec::new());
+    let mut inside = 0;
+    for (parent, count) in pieces {
         text += &format!("{inside} {parent} {count}\n");
-        parent += count + if level == 1 { GAP } else { 0 };
+        ranges.push((inside, count));
+        inside += count;
     }
-    text
+    (text, ranges)
+}
+
+/// The IDs out of namespace 0, as up to five ranges that lie apart.
+fn kernel_ranges(random: &mut Random) -> Vec<Range> {
+    let mut ranges = vec![(KERNEL, IDS)];
+    for _ in 0..random.below(MAX_LINES) {
+        cut(random, &mut ranges);
+    }
+    ranges.sort_unstable();
+    let apart = |(place, range): (usize, &Range)| (range.0 + place as u64 * GAP, range.1);
+    ranges.iter().enumerate().map(apart).collect()
 }
 
 /// Both implementations, which have to come to the same.
 struct Both {
     tables: Tables,
     reference: reference::Tables,
+    /// For each kind, the ranges that the deepest map has on the inside.
+    ranges: [Vec<Range>; 2],
 }
 
 impl Both {
@@ -65,9 +94,10 @@ impl Both {
         assert_eq!(self.make(&Call::Clone { caller }), made);
         // No map is written yet, so that each of the groups that it has from its parent shows as unmapped.
         self.make(&Call::GetIds { caller: process });
-        for kind in KINDS {
-            let text = map_text(random, level).into_bytes();
-            self.make(&Call::WriteMap { kind, caller, process, text });
+        for (place, kind) in KINDS.into_iter().enumerate() {
+            let (text, ranges) = map_text(random, &self.ranges[place]);
+            self.make(&Call::WriteMap { kind, caller, process, text: text.into_bytes() });
+            self.ranges[place] = ranges;
         }
         for kind in KINDS {
             self.make(&Call::SetIds { kind, caller: process, ids: [0; 3] });
@@ -98,7 +128,9 @@ impl Both {
 fn random_maps_translate_alike_at_every_level() {
     for seed in 0..CHAINS {
         let mut random = Random::new(seed);
-        let mut both = Both { tables: Tables::new(), reference: reference::Tables::initial() };
+        let ranges = KINDS.map(|_| kernel_ranges(&mut random));
+        let mut both =
+            Both { tables: Tables::new(), reference: reference::Tables::initial(), ranges };
         for level in 1..=LEVELS {
             both.descend(&mut random, level);
             for kind in KINDS {

@@ -155,14 +155,13 @@ fn nested(tables: &mut Tables, caller: u64, users: &str, groups: &str) -> u64 {
     child
 }
 
-/// The second of the user lines at level 2 runs across both lines of level 1; each line of the groups lies whole in
-/// one.
+/// Two of the user lines at level 2 adjoin where the lines of level 1 do.
 #[test]
 fn translation_goes_through_levels() {
     let mut tables = Tables::new();
     let first = nested(&mut tables, 1, "0 100000 10\n10 200000 5\n", "0 100000 10\n10 200000 5\n");
-    let second = nested(&mut tables, first, "0 2 4\n4 8 4\n", "0 2 4\n4 10 4\n");
-    nested(&mut tables, second, "0 5 3\n", "0 5 3\n");
+    let second = nested(&mut tables, first, "0 2 4\n4 8 2\n6 10 2\n", "0 2 4\n4 10 4\n");
+    nested(&mut tables, second, "0 5 1\n1 6 2\n", "0 5 3\n");
     let out = |kind, namespace, id| tables.translate(kind, Way::Out, 1, namespace, id);
     let back = |kind, namespace, id| tables.translate(kind, Way::Back, 1, namespace, id);
     let pairs = [
@@ -199,32 +198,22 @@ fn translation_goes_through_levels() {
     }
 }
 
-/// At each level four of five lines run across two lines of the map above, so that a map has four pieces more than
-/// the one above it, and from level 9 on more than a lifted map has room for.
+/// L6's example, and the whole second line with one ID more on either side.
 #[test]
-fn translation_goes_through_lines_across() {
+fn a_range_lies_whole_in_one_parent_line() {
     let mut tables = Tables::new();
-    let mut caller = 1;
-    for level in 1..=LEVELS as u32 {
-        let start = |line: u32| if line == 0 { 0 } else { line * 1000 + (level - 1) * 15 };
-        let end = |line: u32| if line == 4 { 5000 } else { start(line + 1) };
-        let parent = |line| if level == 1 { 100_000 + line * 2000 } else { start(line) };
-        let text: String = (0..5)
-            .map(|line| format!("{} {} {}\n", start(line), parent(line), end(line) - start(line)))
-            .collect();
-        caller = nested(&mut tables, caller, &text, &text);
-        let namespace = u64::from(level);
-        for id in (0..5000).step_by(7) {
-            let kernel = 100_000 + id / 1000 * 2000 + id % 1000;
-            for kind in [Kind::User, Kind::Group] {
-                assert_eq!(tables.translate(kind, Way::Out, 1, namespace, id), Ok(Some(kernel)));
-                assert_eq!(tables.translate(kind, Way::Back, 1, namespace, kernel), Ok(Some(id)));
-            }
-        }
-        for (way, id) in [(Way::Out, 5000), (Way::Back, 101_000), (Way::Back, 109_000)] {
-            assert_eq!(tables.translate(Kind::User, way, 1, namespace, id), Ok(None));
+    let lines = "0 100000 10\n10 100010 5\n";
+    let root = nested(&mut tables, 1, lines, lines);
+    let child = tables.clone_process(root).expect("there is room").process;
+    for kind in [Kind::User, Kind::Group] {
+        for text in ["0 8 4", "0 9 6", "0 10 6", "0 11 4\n4 9 2"] {
+            assert_eq!(tables.write_map(kind, root, child, text.as_bytes()), Err(Eperm));
         }
     }
+    assert_eq!(tables.write_map(Kind::User, root, child, b"0 8 2"), Ok(()));
+    assert_eq!(tables.translate(Kind::User, Way::Out, 1, 2, 1), Ok(Some(100_009)));
+    assert_eq!(tables.write_map(Kind::Group, root, child, b"0 10 5\n5 9 1"), Ok(()));
+    assert_eq!(tables.translate(Kind::Group, Way::Out, 1, 2, 5), Ok(Some(100_009)));
 }
 
 #[test]

@@ -12,19 +12,19 @@ use lib.ListN.{length, getD}
 use borrow.Author.Tests.{eq-eqb, eqb-true}
 use Rattle.records.specs.Records.{maxGroups}
 use Rattle.idmap.specs.declared.Translated.the-variants.{Id}
-use Rattle.idmap.specs.Line.{noLine}
-use Rattle.idmap.specs.Cover.{HasLine}
+use Rattle.idmap.specs.Ranges.{oneHas, liesWhole}
 use Rattle.idmap.specs.Text.{mapLines}
 use Rattle.idmap.specs.Good.{goodOf, boundedOf, fitsOf, allApart}
 use Rattle.records.specs.declared.Kind.{Kind}
 use Rattle.records.specs.declared.Kind.the-variants.{Group}
 use Rattle.records.specs.declared.Ids.{Ids}
-use Rattle.tables.specs.Tables.{fixedLine, maxLevel}
+use Rattle.tables.specs.Tables.{maxLevel}
+use Rattle.mapping.specs.Calls.{allWhole}
 use Rattle.prelude.proofs.Tests.{by-test}
 use Rattle.prelude.proofs.Made.{some-none}
 use Rattle.claims.specs.Events.{Event, other, forked, cloned, unshared, joined, mapped, changed, grouped}
 use Rattle.claims.specs.Words.{isProcess, isNamespace, placeOf, parentOf, levelOf, writtenOf, orNone, writtenLines, standsFor, chosenOf, heldOf}
-use Rattle.claims.specs.TopLevel.{IsUnder, OnParentSide}
+use Rattle.claims.specs.TopLevel.{IsUnder}
 use Rattle.claims.proofs.Sound.{Sound, moves, begins, makes, writes}
 
 -- caller c got child q
@@ -45,12 +45,12 @@ pub record Joins (h : List Event) (c n : ℕ) : Type 0 where
   pub target : isNamespace h n ≡ true
   pub inward : IsUnder h (placeOf h c) n
 
--- a map that was not written is, below one that was and that has a line for each ID of its parent side
+-- a map that was not written is, below one that was, and each line's parent side lies whole in one line of that one
 pub record Maps (h : List Event) (k : Kind) (q : ℕ) (text : List ℕ) : Type 0 where
   pub process : isProcess h q ≡ true
   pub unwritten : writtenOf k h (placeOf h q) ≡ none
   pub parent-written : writtenOf k h (parentOf h (placeOf h q)) ≡ none → ⊥
-  pub covered : (z : ℕ) → OnParentSide (orNone (mapLines text)) z → HasLine (writtenLines k h (parentOf h (placeOf h q))) z
+  pub whole : allWhole (liesWhole (writtenLines k h (parentOf h (placeOf h q)))) (orNone (mapLines text)) ≡ true
 
 -- an ID that was given is left as it is, or stands for one
 pub record Chosen (h : List Event) (k : Kind) (n x old : ℕ) : Type 0 where
@@ -92,16 +92,8 @@ Valid (e ∷ h) = Allowed h e × Valid h
 abbrev pub SoundAt : List Event → Type 0
 SoundAt h = Sound (isProcess h) (isNamespace h) (placeOf h) (parentOf h) (levelOf h) (λ (k : Kind). writtenOf k h)
 
--- each ID on the parent side of namespace 0's line is in it
-root-covered : (z : ℕ) → OnParentSide (fixedLine ∷ []) z → HasLine (fixedLine ∷ []) z
-root-covered z (x, p) = in-first (p .which) (p .offset) (p .in-range) (p .below-count) (p .parent-is)
-  where
-    in-first : (i o : ℕ) → i < 1 → o < getD (fixedLine ∷ []) i noLine .count → z ≡ getD (fixedLine ∷ []) i noLine .parent + o → HasLine (fixedLine ∷ []) z
-    in-first zero o r b e = (0, omega arith, (omega arith, omega arith))
-    in-first (suc i) o r b e = absurd (omega arith)
-
 sound-start : SoundAt []
-unfolding isProcess isNamespace placeOf parentOf levelOf writtenOf goodOf boundedOf fitsOf allApart
+unfolding isProcess isNamespace placeOf parentOf levelOf writtenOf goodOf boundedOf fitsOf allApart allWhole liesWhole oneHas
 sound-start = record {
   no-zero = refl;
   root = refl;
@@ -112,7 +104,7 @@ sound-start = record {
   shallow = λ m. omega arith;
   good = λ k m. by-test (eqb m 0) (λ t. rw t) (λ t. rw t);
   counted = λ k m. by-test (eqb m 0) (λ t. rw t (omega arith, omega arith)) (λ t. rw t tt);
-  covered = λ k m z o. by-test (eqb m 0) (λ t. root-covered z (rw t at o)) (λ t. absurd (not-suc-le-zero (rw t at (o .1 .in-range))));
+  whole = λ k m. by-test (eqb m 0) (λ t. rw t) (λ t. rw t);
   made = λ k m f. rw f;
   root-written = λ k e. some-none e;
 }
@@ -126,7 +118,7 @@ sound-step (cloned c q n) h a s =
 sound-step (unshared c n) h a s =
     moves _ _ _ _ _ _ (makes _ _ _ _ _ _ s n (placeOf h c) (a .unused) (s .placed c (a .caller)) (a .room)) c n (rw (eq-eqb n n refl))
 sound-step (joined c n) h a s = moves _ _ _ _ _ _ s c n (a .target)
-sound-step (mapped k q text) h a s = writes _ _ _ _ _ _ s k (placeOf h q) text (s .placed q (a .process)) (a .unwritten) (a .covered)
+sound-step (mapped k q text) h a s = writes _ _ _ _ _ _ s k (placeOf h q) text (s .placed q (a .process)) (a .unwritten) (a .whole)
 sound-step (changed k c new) h a s = s
 sound-step (grouped c list) h a s = s
 

@@ -1,5 +1,5 @@
--- On tables that calls leave, translation by lifted maps is document 01's, so that the code's steps, runs and histories
--- are those of document 01. Assumes nothing.
+-- On tables that calls leave, translation by lifted maps and ranges by a lookup's count are the papers', so that the
+-- code's steps, runs and histories are those of the papers. Assumes nothing.
 use mathlib.Core.Path.{_≡_, refl, ap, _∙_}
 use mathlib.Core.List.{List, [], _∷_}
 use Rattle.tables.specs.Tables.{State, initialTables}

@@ -2,27 +2,31 @@
 use Prim.Native.Nat.{ℕ, zero, suc, _≤_, _<_}
 use mathlib.Core.Path.{_≡_, refl, sym, ap, _∙_, subst}
 use mathlib.Core.Bool.{Bool, true, false, true≢false}
-use mathlib.Core.List.{List, []}
+use mathlib.Core.List.{List, [], _∷_}
 use mathlib.Core.Option.{Option, none, some}
 use mathlib.Core.Logic.{_↔_}
+use native.Mathlib.Nat.{le-of-suc-le-suc}
 use native.Mathlib.Omega.{arith}
 use lib.Dec.{eqb}
-use lib.ListN.{length}
+use lib.ListN.{length, getD}
 use borrow.Author.Tests.{eq-eqb, ne-eqb, eqb-true, eqb-false}
 use Rattle.capability.specs.Sets.{holds}
 use Rattle.idmap.specs.declared.Line.{Line}
 use Rattle.idmap.specs.declared.Translated.{Translated}
 use Rattle.idmap.specs.declared.Translated.the-variants.{Id, Unmapped}
 use Rattle.idmap.specs.Lookup.{out, thenId, back}
-use Rattle.idmap.specs.Good.{maxLines}
-use Rattle.idmap.specs.Cover.{HasLine}
+use Rattle.idmap.specs.Line.{noLine}
+use Rattle.idmap.specs.Good.{maxLines, Within}
+use Rattle.idmap.specs.Ranges.{liesWhole, HasLine}
 use Rattle.idmap.proofs.Goodness.{good-means}
+use Rattle.idmap.proofs.Ranges.{whole-has-line}
 use Rattle.records.specs.declared.Kind.{Kind}
 use Rattle.records.specs.declared.MapState.the-variants.{Unwritten, Written}
 use Rattle.records.specs.declared.Process.{Process}
 use Rattle.records.specs.Records.{mapIn}
 use Rattle.tables.specs.Tables.{State, processAt, namespaceAt, maxLevel}
 use Rattle.hierarchy.specs.Walks.{heightOf, ownedBy, holdsIn, capableIn}
+use Rattle.mapping.specs.Calls.{allWhole}
 use Rattle.credentials.specs.declared.translate.Way.the-variants.{Out, Back}
 use Rattle.calls.specs.Calls.{Request}
 use Rattle.prelude.proofs.Tests.{by-test, and-left, and-right, and-i}
@@ -57,6 +61,19 @@ module _ (up : ℕ → ℕ) (lines : ℕ → List Line) where
   unfolding backBy
   nothing-back zero n y z e = rw (ne-eqb n 0 z)
   nothing-back (suc f) n y z e = rw (ne-eqb n 0 z, e) (none-then (backBy up lines f (up n) y))
+
+-- ---- an ID on the parent side of lines that lie whole in one line above has that line
+line-covered : (above ls : List Line) (i z : ℕ) → allWhole (liesWhole above) ls ≡ true → i < length ls → Within z (getD ls i noLine .parent) (getD ls i noLine .count) → HasLine above z
+unfolding allWhole
+line-covered above [] i z e h w = absurd (omega arith)
+line-covered above (l ∷ ls) zero z e h w = whole-has-line above (l .parent) (l .count) z (and-left (liesWhole above (l .parent) (l .count)) (allWhole (liesWhole above) ls) e) w
+line-covered above (l ∷ ls) (suc i) z e h w = line-covered above ls i z (and-right (liesWhole above (l .parent) (l .count)) (allWhole (liesWhole above) ls) e) (le-of-suc-le-suc h) w
+
+parent-covered : (above ls : List Line) (z : ℕ) → allWhole (liesWhole above) ls ≡ true → OnParentSide ls z → HasLine above z
+parent-covered above ls z e (x, p) =
+    let q = p .parent-is in
+    let b = p .below-count in
+    line-covered above ls (p .which) z e (p .in-range) (omega arith, omega arith)
 
 module _ (s : State) (h : List Event) (a : Agreed s h) (d : SoundAt h) where
   -- the tables' own levels and parents
@@ -157,10 +174,9 @@ module _ (s : State) (h : List Event) (a : Agreed s h) (d : SoundAt h) where
   line-counts : (k : Kind) (n c : ℕ) → mapIn k (namespaceAt s n) .state ≡ Written c → (1 ≤ c) × (c ≤ maxLines) × (length (linesAt s k n) ≡ c)
   line-counts k n c e = rw (lines-agree s h a k n) (counts (writtenOf k h n) c (d .counted k n) (sym (a .namespace-state k n) ∙ e))
 
-  has-line : (k : Kind) (n z : ℕ) → OnParentSide (linesAt s k n) z → HasLine (linesAt s k (namespaceAt s n .parent)) z
-  has-line k n z o =
-      subst (λ (ls : List Line). HasLine ls z) (sym (lines-agree s h a k (namespaceAt s n .parent) ∙ ap (writtenLines k h) (a .namespace-parent n)))
-      (d .covered k n z (subst (λ (ls : List Line). OnParentSide ls z) (lines-agree s h a k n) o))
+  lines-whole : (k : Kind) (n : ℕ) → allWhole (liesWhole (linesAt s k (namespaceAt s n .parent))) (linesAt s k n) ≡ true
+  lines-whole k n =
+      rw (lines-agree s h a k (namespaceAt s n .parent) ∙ ap (writtenLines k h) (a .namespace-parent n), lines-agree s h a k n) (d .whole k n)
 
   unwritten-none : (o : Option (List Line)) → stateFor o ≡ Unwritten → o ≡ none
   unwritten-none none e = refl
@@ -196,6 +212,7 @@ bounds rs f =
       group-count = λ i. rw (a .process-count i) (few-groups h (r .valid) (suc i));
       line-count = line-counts s h a d;
       lines-good = λ k n. rw (lines-agree s h a k n) (good-means (writtenLines k h n) .0 (d .good k n));
-      covered = has-line s h a d;
+      whole = lines-whole s h a d;
+      covered = λ k n z o. parent-covered (linesAt s k (namespaceAt s n .parent)) (linesAt s k n) z (lines-whole s h a d k n) o;
       unwritten = λ k n x e. translates-nothing s h a d k n x (unwritten-none s h a d (writtenOf k h n) (sym (a .namespace-state k n) ∙ e));
     }

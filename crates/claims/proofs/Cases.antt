@@ -24,7 +24,7 @@ use Rattle.tables.specs.Find.{processNamed, namespaceNamed, freeProcessPlace, f
 use Rattle.tables.specs.Reply.{done, child, childIn, newNamespace, Outcome, refuse, onFound}
 use Rattle.hierarchy.specs.Walks.{Translation, capableIn}
 use Rattle.process.specs.Calls.{forkOf, knowsItself, entered, makesNamespace, withChild, cloneOf, unshareOf, setnsOf}
-use Rattle.mapping.specs.Calls.{isNear, mayMap, allCovered, mappedTables, thenLines, writeLinesTo, writeMapTo, writeMapOf, withDeny, settingIn, thenSetting, writeSetgroupsTo, writeSetgroupsOf}
+use Rattle.mapping.specs.Calls.{isNear, mayMap, allWhole, mappedTables, thenLines, writeLinesTo, writeMapTo, writeMapOf, withDeny, settingIn, thenSetting, writeSetgroupsTo, writeSetgroupsOf}
 use Rattle.credentials.specs.Calls.{chosen, thenThree, withIds, mayTake, setIdsOf, groupList, withList, thenList, kernelGroups, setGroupsOf, withSets, dropOf}
 use Rattle.claims.specs.TopLevel.{Has}
 use Rattle.claims.specs.Refusals.{refusalNumbers}
@@ -130,7 +130,7 @@ module _ (by : Translation) (s : State) (P : Outcome → Type 0) (no : (e : ℕ)
 
   pub write-map-case : (k : Kind) (c name : ℕ) (text : List ℕ)
       → ((p : ℕ) (ls : List Line) → callerNamed s name ≡ At p → isWritten (mapIn k (namespaceAt s (processAt s p .namespace)) .state) ≡ false → mapLines text ≡ some ls
-      → allCovered (linesOf (mapIn k (namespaceAt s (namespaceAt s (processAt s p .namespace) .parent)))) ls ≡ true
+      → allWhole (by .whole k (namespaceAt s (processAt s p .namespace) .parent)) ls ≡ true
       → P (record { reply = done; tables = mappedTables s k (processAt s p .namespace) ls }))
       → P (writeMapOf by s k c name text)
   unfolding writeMapOf writeMapTo writeLinesTo
@@ -148,7 +148,7 @@ module _ (by : Translation) (s : State) (P : Outcome → Type 0) (no : (e : ℕ)
       lines-case P (mapLines text) (no 22 is-22) (λ ls m.
       test-case P (mayMap by s k (processAt s w) (namespaceAt s n) ls)
       (λ t.
-      test-case P (allCovered (linesOf (mapIn k (namespaceAt s (namespaceAt s n .parent)))) ls) (λ u. f p ls (process-named s w name p g) v m u) (λ u. no 1 is-1))
+      test-case P (allWhole (by .whole k (namespaceAt s n .parent)) ls) (λ u. f p ls (process-named s w name p g) v m u) (λ u. no 1 is-1))
       (λ t. no 1 is-1)))
       (λ t. no 1 is-1)))))
       (λ t. no 1 is-1))))

@@ -1,24 +1,19 @@
 -- The writes of the map files and of the setgroups file: what each leaves agrees with its history, and it was allowed.
 -- Assumes nothing.
-use Prim.Native.Nat.{ℕ, zero, suc, _-_, _<_}
+use Prim.Native.Nat.{ℕ, _-_, _<_}
 use mathlib.Core.Path.{_≡_, refl, sym, ap, _∙_, subst}
 use mathlib.Core.Bool.{Bool, true, false, cond, _&&_, true≢false}
-use mathlib.Core.List.{List, [], _∷_}
+use mathlib.Core.List.{List}
 use mathlib.Core.Option.{Option, none, some}
-use native.Mathlib.Nat.{le-of-suc-le-suc}
 use native.Mathlib.Omega.{arith}
 use lib.Dec.{eqb}
-use lib.ListN.{length, getD, replicate}
+use lib.ListN.{length, replicate}
 use lib.Seq.{take-append-seam}
-use borrow.Author.Tests.{le-ltb, ne-eqb}
 use Rattle.idmap.specs.declared.Line.{Line}
-use Rattle.idmap.specs.Line.{less, more, noLine}
-use Rattle.idmap.specs.Lookup.{reachOf}
-use Rattle.idmap.specs.Good.{maxLines, goodOf, Within}
-use Rattle.idmap.specs.Cover.{coveredIn, coveredOf, HasLine}
+use Rattle.idmap.specs.Line.{noLine}
+use Rattle.idmap.specs.Good.{maxLines}
+use Rattle.idmap.specs.Ranges.{liesWhole}
 use Rattle.idmap.specs.Text.{mapLines, padded}
-use Rattle.idmap.proofs.Goodness.{good-first, good-others}
-use Rattle.idmap.proofs.Covers.{covered-means}
 use Rattle.lifted_map.specs.Lift.{liftedOf}
 use Rattle.records.specs.declared.Kind.{Kind}
 use Rattle.records.specs.declared.Kind.the-variants.{User, Group}
@@ -26,25 +21,25 @@ use Rattle.records.specs.declared.Namespace.{Namespace}
 use Rattle.records.specs.declared.MapState.{MapState}
 use Rattle.records.specs.declared.MapState.the-variants.{Unwritten, Written}
 use Rattle.records.specs.declared.IdMap.{IdMap}
-use Rattle.records.specs.Records.{mapIn, isWritten, linesOf}
+use Rattle.records.specs.Records.{mapIn, isWritten}
 use Rattle.tables.specs.declared.find.Found.the-variants.{At}
 use Rattle.tables.specs.Tables.{State, processAt, namespaceAt, liftedAt, putNamespace}
 use Rattle.tables.specs.Find.{processNamed, callerNamed}
 use Rattle.hierarchy.specs.Walks.{Translation}
-use Rattle.mapping.specs.Calls.{allCovered, writtenMap, withMap, mappedTables, writeMapOf, withDeny, writeSetgroupsOf}
+use Rattle.mapping.specs.Calls.{allWhole, writtenMap, withMap, mappedTables, writeMapOf, withDeny, writeSetgroupsOf}
 use Rattle.calls.specs.declared.Call.the-variants.{WriteMap, WriteSetgroups}
 use Rattle.claims.specs.Events.{Event, other, mapped}
-use Rattle.claims.specs.Words.{isProcess, isNamespace, placeOf, parentOf, levelOf, writtenOf, orNone, heldOf, sameKind}
+use Rattle.claims.specs.Words.{isProcess, isNamespace, placeOf, parentOf, levelOf, writtenOf, writtenLines, heldOf, sameKind}
 use Rattle.claims.specs.Agreement.{ifWritten, writtenIn, stateFor, Agreed}
 use Rattle.claims.specs.LiftedMaps.{liftedBy, liftOf}
 use Rattle.claims.proofs.Beside.{Beside, keeps-lifted, stores-lifted}
 use Rattle.claims.proofs.Allowed.{SoundAt}
-use Rattle.claims.specs.TopLevel.{OnParentSide}
 use Rattle.claims.proofs.Stores.{cond-ap, namespace-in-range}
-use Rattle.claims.proofs.Agree.{picked-same, stores-namespace, keeps-tables, lines-agree, caller-live, caller-place}
-use Rattle.claims.proofs.Sound.{Counted, map-lines-good, map-lines-counted, same-kind}
-use Rattle.prelude.proofs.Tests.{by-test, and-left, and-right}
+use Rattle.claims.proofs.Agree.{picked-same, stores-namespace, keeps-tables, caller-live, caller-place}
+use Rattle.claims.proofs.Sound.{Counted, map-lines-counted, none-whole, same-kind}
+use Rattle.prelude.proofs.Tests.{by-test, and-left}
 use Rattle.claims.proofs.Steps.{Next, nothing-happened, After}
+use Rattle.claims.proofs.Translating.{byHistory}
 use Rattle.claims.proofs.Cases.{write-map-case, write-setgroups-case}
 
 -- ---- a namespace with a map, and with a setting
@@ -68,44 +63,14 @@ unfolding withDeny
 deny-map User n b = refl
 deny-map Group n b = refl
 
-first-covered : (l : Line) (ls : List Line) → allCovered [] (l ∷ ls) ≡ true → coveredOf [] (l .parent) (l .count) ≡ true
-unfolding allCovered
-first-covered l ls c = and-left (coveredOf [] (l .parent) (l .count)) (allCovered [] ls) c
-
-uncovered : (start count : ℕ) → 0 < count → coveredOf [] start count ≡ true → ⊥
-unfolding coveredOf coveredIn reachOf
-uncovered start zero h c = omega arith
-uncovered start (suc count) h c = true≢false (sym c ∙ rw (ne-eqb (suc count) 0 (λ e. omega arith), le-ltb (less (more start (suc count - 1)) start) 0 (omega arith)))
-
 -- a map that is written with lines has them
 written-lines : (ls : List Line) → writtenIn (writtenMap ls) ≡ some ls
 unfolding padded
 written-lines ls = ap some (take-append-seam ls (replicate (maxLines - length ls) noLine))
 
--- the lines of a text are some, and good
-lines-written : (text : List ℕ) (ls : List Line) → mapLines text ≡ some ls → (0 < length ls) × (goodOf ls ≡ true)
-lines-written text ls e = (subst Counted e (map-lines-counted text) .0, subst (λ (o : Option (List Line)). goodOf (orNone o) ≡ true) e (map-lines-good text))
-
--- over no lines nothing is covered
-covered-above : (ls : List Line) → (0 < length ls) × (goodOf ls ≡ true) → allCovered [] ls ≡ true → ⊥
-covered-above [] h c = omega arith
-covered-above (l ∷ ls) h c = let b = good-first l ls (h .1) in uncovered (l .parent) (l .count) (b .some) (first-covered l ls c)
-
--- each ID on the parent side of covered lines has a line above
-line-covered : (above : List Line) (ls : List Line) (i z : ℕ) → goodOf above ≡ true → goodOf ls ≡ true → allCovered above ls ≡ true → i < length ls
-    → Within z (getD ls i noLine .parent) (getD ls i noLine .count) → HasLine above z
-unfolding allCovered
-line-covered above [] i z g f c h w = absurd (omega arith)
-line-covered above (l ∷ ls) zero z g f c h w =
-    covered-means above (l .parent) (l .count) g (good-first l ls f .parent-fits) .0 (and-left (coveredOf above (l .parent) (l .count)) (allCovered above ls) c) z w
-line-covered above (l ∷ ls) (suc i) z g f c h w =
-    line-covered above ls i z g (good-others l ls f) (and-right (coveredOf above (l .parent) (l .count)) (allCovered above ls) c) (le-of-suc-le-suc h) w
-
-each-covered : (above ls : List Line) → goodOf above ≡ true → goodOf ls ≡ true → allCovered above ls ≡ true → (z : ℕ) → OnParentSide ls z → HasLine above z
-each-covered above ls g f c z (x, p) =
-    let e = p .parent-is in
-    let b = p .below-count in
-    line-covered above ls (p .which) z g f c (p .in-range) (omega arith, omega arith)
+-- the lines of a text are some
+some-lines : (text : List ℕ) (ls : List Line) → mapLines text ≡ some ls → 0 < length ls
+some-lines text ls e = subst Counted e (map-lines-counted text) .0
 
 unwritten-is : (m : IdMap) → isWritten (m .state) ≡ false → writtenIn m ≡ none
 unwritten-is m e = by-state (m .state) e
@@ -114,7 +79,7 @@ unwritten-is m e = by-state (m .state) e
     by-state Unwritten e = refl
     by-state (Written n) e = absurd (true≢false e)
 
-module _ (by : Translation) (s : State) (h : List Event) (a : Agreed s h) (b : Beside s h) (d : SoundAt h) (text list : List ℕ) where
+module _ (by : Translation) (s : State) (h : List Event) (a : Agreed s h) (b : Beside s h) (d : SoundAt h) (o : by ≡ byHistory h) (text list : List ℕ) where
   -- the namespace of a process that is named
   module _ (name p : ℕ) (e : callerNamed s name ≡ At p) where
     target : ℕ
@@ -158,18 +123,18 @@ module _ (by : Translation) (s : State) (h : List Event) (a : Agreed s h) (b : B
         (λ t. rw (caller-place s h a name p e, t))
 
     -- the lines above are those of the history
-    above-is : (k : Kind) → linesOf (mapIn k (namespaceAt s (namespaceAt s (processAt s p .namespace) .parent))) ≡ orNone (writtenOf k h (parentOf h (placeOf h name)))
+    above-is : (k : Kind) → by .whole k (namespaceAt s (processAt s p .namespace) .parent) ≡ liesWhole (writtenLines k h (parentOf h (placeOf h name)))
     above-is k =
         let u : namespaceAt s (processAt s p .namespace) .parent ≡ parentOf h (placeOf h name) = a .namespace-parent (processAt s p .namespace) ∙ ap (parentOf h) (caller-place s h a name p e) in
-        lines-agree s h a k (namespaceAt s (processAt s p .namespace) .parent) ∙ ap (λ (m : ℕ). orNone (writtenOf k h m)) u
+        (λ i. o i .whole k (namespaceAt s (processAt s p .namespace) .parent)) ∙ ap (λ (m : ℕ). liesWhole (writtenLines k h m)) u
 
     mapped-next : (k : Kind) (ls : List Line) → mapLines text ≡ some ls → isWritten (mapIn k (namespaceAt s (processAt s p .namespace)) .state) ≡ false
-        → allCovered (linesOf (mapIn k (namespaceAt s (namespaceAt s (processAt s p .namespace) .parent)))) ls ≡ true
+        → allWhole (by .whole k (namespaceAt s (processAt s p .namespace) .parent)) ls ≡ true
         → Next h (mapped k name text) (mappedTables s k (processAt s p .namespace) ls)
     unfolding mappedTables isProcess isNamespace placeOf parentOf levelOf writtenOf liftOf heldOf
     mapped-next k ls m w c =
         let n = processAt s p .namespace in
-        let g : allCovered (orNone (writtenOf k h (parentOf h (placeOf h name)))) ls ≡ true = rw (above-is k) at c in
+        let g : allWhole (liesWhole (writtenLines k h (parentOf h (placeOf h name)))) ls ≡ true = rw (above-is k) at c in
         record {
           agree = keeps-tables (putNamespace s n (withMap k (namespaceAt s n) (writtenMap ls))) _ _ _ _ _ _ _
               (stores-namespace s _ _ _ _ _ _ _ a n (withMap k (namespaceAt s n) (writtenMap ls)) (namespace-in-range s n target-live) _ _ _ _
@@ -186,8 +151,8 @@ module _ (by : Translation) (s : State) (h : List Event) (a : Agreed s h) (b : B
           allowed = record {
             process = caller-live s h a name p e;
             unwritten = rw (← caller-place s h a name p e) (sym (a .namespace-map k n) ∙ unwritten-is (mapIn k (namespaceAt s n)) w);
-            parent-written = λ q. covered-above ls (lines-written text ls m) (rw q at g);
-            covered = λ z o. each-covered _ ls (d .good k (parentOf h (placeOf h name))) (lines-written text ls m .1) g z (rw m at o);
+            parent-written = λ q. let z = some-lines text ls m in let n : length ls ≡ 0 = ap length (none-whole ls (rw q at g)) in omega arith;
+            whole = rw m g;
           };
         }
 

@@ -3,24 +3,24 @@
 use Prim.Native.Nat.{ℕ, suc, _≤_, _<_}
 use mathlib.Core.Path.{_≡_, refl, sym, ap, _∙_, subst}
 use mathlib.Core.Bool.{Bool, true, false, cond, _&&_, true≢false}
-use mathlib.Core.List.{List}
+use mathlib.Core.List.{List, [], _∷_}
 use mathlib.Core.Option.{Option, none, some}
 use native.Mathlib.Nat.{not-suc-le-zero}
 use native.Mathlib.Omega.{arith}
-use lib.Dec.{eqb, leb}
+use lib.Dec.{eqb, leb, ltb}
 use lib.ListN.{length}
 use borrow.Author.Tests.{ne-eqb, eqb-true, leb-true}
 use Rattle.tables.specs.Tables.{maxLevel}
 use Rattle.idmap.specs.declared.Line.{Line}
 use Rattle.idmap.specs.Good.{maxLines, goodOf}
-use Rattle.idmap.specs.Cover.{HasLine}
+use Rattle.idmap.specs.Ranges.{oneHas, liesWhole}
 use Rattle.idmap.specs.Text.{checked, mapLines, textLines}
 use Rattle.records.specs.declared.Kind.{Kind}
 use Rattle.records.specs.declared.Kind.the-variants.{User, Group}
-use Rattle.prelude.proofs.Tests.{by-test, cond-elim, and-right, both}
+use Rattle.mapping.specs.Calls.{allWhole}
+use Rattle.prelude.proofs.Tests.{by-test, cond-elim, and-left, and-right, both}
 use Rattle.claims.specs.Words.{sameKind, orNone}
 use Rattle.claims.specs.Translation.{Pairs}
-use Rattle.claims.specs.TopLevel.{OnParentSide}
 
 -- a written map has one line at least, and no more than there is room for
 abbrev pub Counted : Option (List Line) → Type 0
@@ -39,7 +39,7 @@ pub record Sound (isP isN : ℕ → Bool) (place up level : ℕ → ℕ) (maps :
   pub shallow : (m : ℕ) → level m ≤ maxLevel
   pub good : (k : Kind) (m : ℕ) → goodOf (orNone (maps k m)) ≡ true
   pub counted : (k : Kind) (m : ℕ) → Counted (maps k m)
-  pub covered : (k : Kind) (m z : ℕ) → OnParentSide (orNone (maps k m)) z → HasLine (orNone (maps k (up m))) z
+  pub whole : (k : Kind) (m : ℕ) → allWhole (liesWhole (orNone (maps k (up m)))) (orNone (maps k m)) ≡ true
   pub made : (k : Kind) (m : ℕ) → isN m ≡ false → maps k m ≡ none
   pub root-written : (k : Kind) → maps k 0 ≡ none → ⊥
 
@@ -73,9 +73,16 @@ pub map-lines-counted : (text : List ℕ) → Counted (mapLines text)
 unfolding mapLines
 map-lines-counted text = checked-lines (textLines text) .1
 
--- no line holds an ID where there is none
-pub no-line : (o : Option (List Line)) (z : ℕ) → o ≡ none → HasLine (orNone o) z → ⊥
-no-line o z e l = not-suc-le-zero (rw e at (l .1))
+-- where there is no line above, no line lies whole in one
+pub none-whole : (ls : List Line) → allWhole (liesWhole []) ls ≡ true → ls ≡ []
+unfolding allWhole liesWhole oneHas
+none-whole [] e = refl
+none-whole (l ∷ ls) e = absurd (true≢false (sym (and-right (ltb 0 (l .count)) false (and-left (ltb 0 (l .count) && false) (allWhole (liesWhole []) ls) e))))
+
+-- an unwritten map has no line that does not
+unwritten-whole : (whole : ℕ → ℕ → Bool) (o : Option (List Line)) → o ≡ none → allWhole whole (orNone o) ≡ true
+unfolding allWhole
+unwritten-whole whole o e = rw e
 
 module _ (isP isN : ℕ → Bool) (place up level : ℕ → ℕ) (maps : Kind → ℕ → Option (List Line)) (s : Sound isP isN place up level maps) where
   -- a namespace that has a line is one, so its level is above its parent's
@@ -97,7 +104,7 @@ module _ (isP isN : ℕ → Bool) (place up level : ℕ → ℕ) (maps : Kind �
     shallow = s .shallow;
     good = s .good;
     counted = s .counted;
-    covered = s .covered;
+    whole = s .whole;
     made = s .made;
     root-written = s .root-written;
   }
@@ -143,26 +150,28 @@ module _ (isP isN : ℕ → Bool) (place up level : ℕ → ℕ) (maps : Kind �
       shallow = λ i. cond-elim (λ (l : ℕ). l ≤ maxLevel) (eqb i n) (omega arith) (s .shallow i);
       good = s .good;
       counted = s .counted;
-      covered = λ k i z o.
+      whole = λ k i.
           by-test (eqb i n)
-          (λ r. absurd (no-pairs k i (o .0) z (ap isN (eqb-true i n r) ∙ new) (o .1)))
-          (λ r. rw r (s .covered k i z o));
+          (λ r. unwritten-whole _ (maps k i) (s .made k i (ap isN (eqb-true i n r) ∙ new)))
+          (λ r. rw r (s .whole k i));
       made = λ k i f. by-test (isN i) (λ t. absurd (true≢false (sym (kept i t) ∙ f))) (λ t. s .made k i t);
       root-written = s .root-written;
     }
 
-  -- the map of kind j of namespace n is written, which was not, over lines that have each ID of its parent side
-  module _ (j : Kind) (n : ℕ) (text : List ℕ) (t : isN n ≡ true) (u : maps j n ≡ none) (c : (z : ℕ) → OnParentSide (orNone (mapLines text)) z → HasLine (orNone (maps j (up n))) z) where
+  -- the map of kind j of namespace n is written, which was not, each line whole in one line above it
+  module _ (j : Kind) (n : ℕ) (text : List ℕ) (t : isN n ≡ true) (u : maps j n ≡ none) (c : allWhole (liesWhole (orNone (maps j (up n)))) (orNone (mapLines text)) ≡ true) where
     abbrev maps′ : Kind → ℕ → Option (List Line)
     maps′ k m = cond (sameKind k j && eqb m n) (mapLines text) (maps k m)
 
-    -- lines that were there are there still
-    line-kept : (k : Kind) (m z : ℕ) → HasLine (orNone (maps k m)) z → HasLine (orNone (maps′ k m)) z
-    line-kept k m z l =
+    -- lines that lay whole in one line of a map do so still
+    whole-kept : (k : Kind) (m : ℕ) (ls : List Line) → allWhole (liesWhole (orNone (maps k m))) ls ≡ true → allWhole (liesWhole (orNone (maps′ k m))) ls ≡ true
+    unfolding allWhole
+    whole-kept k m ls l =
         by-test (sameKind k j && eqb m n)
         (λ r.
         let f = both (sameKind k j) (eqb m n) r in
-        absurd (no-line (maps k m) z ((λ i. maps (same-kind k j (f .0) i) (eqb-true m n (f .1) i)) ∙ u) l))
+        let none-there : maps k m ≡ none = (λ i. maps (same-kind k j (f .0) i) (eqb-true m n (f .1) i)) ∙ u in
+        rw (none-whole ls (rw none-there at l)))
         (λ r. rw r l)
 
     pub writes : Sound isP isN place up level maps′
@@ -176,13 +185,13 @@ module _ (isP isN : ℕ → Bool) (place up level : ℕ → ℕ) (maps : Kind �
       shallow = s .shallow;
       good = λ k m. cond-elim (λ (r : Option (List Line)). goodOf (orNone r) ≡ true) (sameKind k j && eqb m n) (map-lines-good text) (s .good k m);
       counted = λ k m. cond-elim Counted (sameKind k j && eqb m n) (map-lines-counted text) (s .counted k m);
-      covered = λ k m z o.
+      whole = λ k m.
           by-test (sameKind k j && eqb m n)
           (λ r.
           let f = both (sameKind k j) (eqb m n) r in
-          let l = c z (rw r at o) in
-          line-kept k (up m) z (subst (λ (i : Kind × ℕ). HasLine (orNone (maps (i .0) (up (i .1)))) z) (λ i. (sym (same-kind k j (f .0)) i, sym (eqb-true m n (f .1)) i)) l))
-          (λ r. line-kept k (up m) z (s .covered k m z (rw r at o)));
+          let l = subst (λ (i : Kind × ℕ). allWhole (liesWhole (orNone (maps (i .0) (up (i .1))))) (orNone (mapLines text)) ≡ true) (λ i. (sym (same-kind k j (f .0)) i, sym (eqb-true m n (f .1)) i)) c in
+          rw r (whole-kept k (up m) (orNone (mapLines text)) l))
+          (λ r. rw r (whole-kept k (up m) (orNone (maps k m)) (s .whole k m)));
       made = λ k m f.
           by-test (sameKind k j && eqb m n)
           (λ r. absurd (differ isN n m t f (sym (eqb-true m n (and-right (sameKind k j) (eqb m n) r)))))

@@ -48,8 +48,8 @@ module _ (by : Translation) (s : State) (h : List Event) (a : Agreed s h) (b : B
   call-next (Clone c) f l = clone-next by s h a b d o text list c
   call-next (Unshare c) f l = unshare-next by s h a b d o text list c
   call-next (Setns c n) f l = setns-next by s h a b d o text list c n
-  call-next (WriteMap k c p) f l = write-map-next by s h a b d text list k c p
-  call-next (WriteSetgroups c p) f l = write-setgroups-next by s h a b d text list c p
+  call-next (WriteMap k c p) f l = write-map-next by s h a b d u text list k c p
+  call-next (WriteSetgroups c p) f l = write-setgroups-next by s h a b d u text list c p
   call-next (ReadMap k c p) f l = nothing-happened s h a b
   call-next (ReadSetgroups c p) f l = nothing-happened s h a b
   call-next (SetIds k c i) f l = set-ids-next by s h a b u text list k c i (f .0) (f .1) (f .2)

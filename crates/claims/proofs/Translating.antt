@@ -11,13 +11,15 @@ use Rattle.idmap.specs.declared.Line.{Line}
 use Rattle.idmap.specs.declared.Translated.{Translated}
 use Rattle.idmap.specs.declared.Translated.the-variants.{Unmapped}
 use Rattle.idmap.specs.Lookup.{out, thenId, flip, back}
+use Rattle.idmap.specs.Ranges.{liesWhole}
 use Rattle.idmap.specs.Good.{noId, goodOf, boundedOf, fitsOf, allApart}
 use Rattle.idmap.proofs.Translation.{two-answers}
+use Rattle.idmap.proofs.Ranges.{whole-by-reach}
 use Rattle.lifted_map.proofs.Composition.{out-low}
 use Rattle.records.specs.declared.Kind.{Kind}
 use Rattle.tables.specs.Tables.{State, fixedLine, maxLevel}
 use Rattle.hierarchy.specs.Walks.{Translation, heightOf, itself}
-use Rattle.hierarchy.specs.Lifted.{outIn, toKernelBy, toKernel, backIn, fromKernelBy, fromKernel, byLiftedMaps, stepsAbove}
+use Rattle.hierarchy.specs.Lifted.{outIn, toKernelBy, toKernel, backIn, fromKernelBy, fromKernel, wholeIn, byLiftedMaps, stepsAbove}
 use Rattle.prelude.proofs.Tests.{by-test}
 use Rattle.prelude.proofs.Made.{some-none}
 use Rattle.claims.specs.Translation.{byLevels, outBy, backBy}
@@ -206,6 +208,7 @@ abbrev pub byHistory : List Event → Translation
 byHistory h = record {
   out = λ (k : Kind) (n x : ℕ). standsFor k h n x;
   back = λ (k : Kind) (n y : ℕ). backBy (parentOf h) (writtenLines k h) (levelOf h n) n y;
+  whole = λ (k : Kind) (n : ℕ). liesWhole (writtenLines k h n);
 }
 
 module _ (s : State) (h : List Event) (a : Agreed s h) (d : SoundAt h) where
@@ -218,11 +221,21 @@ module _ (s : State) (h : List Event) (a : Agreed s h) (d : SoundAt h) where
   levels-history = λ i. record {
     out = λ (k : Kind) (n x : ℕ). outBy (λ (m : ℕ). a .namespace-parent m i) (λ (m : ℕ). lines-agree s h a k m i) (height-agrees n i) n x;
     back = λ (k : Kind) (n y : ℕ). backBy (λ (m : ℕ). a .namespace-parent m i) (λ (m : ℕ). lines-agree s h a k m i) (height-agrees n i) n y;
+    whole = λ (k : Kind) (n : ℕ). liesWhole (lines-agree s h a k n i);
   }
 
-  -- the translation by lifted maps is the level by level one: out and back, for every kind, namespace and number
+  -- the maps are good, so a lookup's count decides whether a range lies whole in one line
+  whole-agrees : (k : Kind) (n start count : ℕ) → wholeIn s k n start count ≡ liesWhole (writtenLines k h n) start count
+  unfolding wholeIn
+  whole-agrees k n start count = rw (lines-agree s h a k n) (whole-by-reach (writtenLines k h n) start count (d .good k n))
+
+  -- what the code does is what the papers say: out, back and ranges, for every kind, namespace and number
   pub same-translation : Beside s h → LiftsAt h → byLiftedMaps s ≡ byLevels s
   unfolding byLiftedMaps
   same-translation b o =
-      (λ i. record { out = λ (k : Kind) (n x : ℕ). stands-agrees s h b d o k n x i; back = λ (k : Kind) (n y : ℕ). returns-agrees s h b d o k n y i })
+      (λ i. record {
+        out = λ (k : Kind) (n x : ℕ). stands-agrees s h b d o k n x i;
+        back = λ (k : Kind) (n y : ℕ). returns-agrees s h b d o k n y i;
+        whole = λ (k : Kind) (n start count : ℕ). whole-agrees k n start count i;
+      })
       ∙ sym levels-history

@@ -23,7 +23,7 @@ use Rattle.tables.specs.Find.{processNamed, namespaceNamed, freeProcessPlace, f
 use Rattle.tables.specs.Reply.{Reply, yes′, no′, Outcome, onFound}
 use Rattle.hierarchy.specs.Walks.{Translation, heightOf, holdsIn, capableIn}
 use Rattle.process.specs.Calls.{forkOf, knowsItself, makesNamespace, cloneOf, unshareOf, setnsOf}
-use Rattle.mapping.specs.Calls.{isNear, singleLine, mayMap, allCovered, mappedTables, thenLines, writeLinesTo, writeMapTo, writeMapOf, settingIn, thenSetting, writeSetgroupsTo, writeSetgroupsOf}
+use Rattle.mapping.specs.Calls.{isNear, singleLine, mayMap, allWhole, mappedTables, thenLines, writeLinesTo, writeMapTo, writeMapOf, settingIn, thenSetting, writeSetgroupsTo, writeSetgroupsOf}
 use Rattle.mapping.specs.Calls.{viewOf, shownLine, mapTextOf, readMapOf, readSetgroupsOf}
 use Rattle.credentials.specs.Calls.{chosen, thenThree, mayTake, allOneOf, setIdsOf, thenList, kernelGroups, setGroupsOf, capableReply, dropOf, seenGroups, ownIdsOf, translateReply}
 use Rattle.calls.specs.declared.Call.{Call}
@@ -121,11 +121,11 @@ module _ (s : State) where
 
   module _ (k : Kind) (w : Process) (n : ℕ) (text : List ℕ) where
     write-lines-same : bareOut (writeLinesTo by s k w n text) ≡ bareOut (writeLinesTo by′ (bare s) k w n text)
-    unfolding writeLinesTo namespaceAt mappedTables
+    unfolding writeLinesTo namespaceAt mappedTables byLevels
     write-lines-same =
         lines-same bareOut (mapLines text) refl (λ ls.
         test-same bareOut (mayMap by s k w (namespaceAt s n) ls) _ (may-same k w (namespaceAt s n) ls)
-        (test-same bareOut (allCovered (linesOf (mapIn k (namespaceAt s (namespaceAt s n .parent)))) ls) _ refl refl refl)
+        (test-same bareOut (allWhole (by .whole k (namespaceAt s n .parent)) ls) _ refl refl refl)
         refl)
 
     write-to-same : bareOut (writeMapTo by s k w n text) ≡ bareOut (writeMapTo by′ (bare s) k w n text)

@@ -1,6 +1,7 @@
--- What the code keeps for speed does not show. It translates by lifted maps, document 01 level by level: on tables that
--- a list of calls leaves it is one, which `as-document` of proofs/AsDocument.antt proves of every list. And document
--- 01's step reads no lifted map: `unread` of proofs/Unread.antt. Assumes nothing.
+-- What the code does for speed does not show. It translates by lifted maps, document 01 level by level; and it tests a
+-- range by one lookup's count, document 02 by the line that has both ends. On tables that a list of calls leaves it is
+-- one, which `as-document` of proofs/AsDocument.antt proves of every list. And the papers' step reads no lifted map:
+-- `unread` of proofs/Unread.antt. Assumes nothing.
 use mathlib.Core.Path.{_≡_}
 use mathlib.Core.List.{List, []}
 use Rattle.tables.specs.Tables.{State, initialTables}
@@ -10,7 +11,7 @@ use Rattle.claims.specs.Translation.{byLevels}
 use Rattle.claims.specs.History.{stepOf, runFrom, historyFrom, run, history}
 
 pub record AsDocument (rs : List Request) : Type 0 where
-  -- every number of every namespace, of either kind, out and back
+  -- every number of every namespace, of either kind, out and back, and every range
   pub translation : byLiftedMaps (run rs) ≡ byLevels (run rs)
   -- so every next call's answer, tables and buffer
   pub step : (r : Request) → stepOf byLiftedMaps (run rs) r ≡ stepOf byLevels (run rs) r

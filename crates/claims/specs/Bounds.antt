@@ -11,13 +11,14 @@ use Rattle.capability.specs.Sets.{holds}
 use Rattle.idmap.specs.declared.Line.{Line}
 use Rattle.idmap.specs.declared.Translated.the-variants.{Id, Unmapped}
 use Rattle.idmap.specs.Good.{maxLines, noId, Good}
-use Rattle.idmap.specs.Cover.{HasLine}
+use Rattle.idmap.specs.Ranges.{liesWhole, HasLine}
 use Rattle.records.specs.declared.Kind.{Kind}
 use Rattle.records.specs.declared.Process.{Process}
 use Rattle.records.specs.declared.MapState.the-variants.{Unwritten, Written}
 use Rattle.records.specs.Records.{mapIn, linesOf, maxGroups}
 use Rattle.tables.specs.Tables.{State, processAt, namespaceAt, processPlaces, namespacePlaces, maxLevel}
 use Rattle.hierarchy.specs.Walks.{capableIn}
+use Rattle.mapping.specs.Calls.{allWhole}
 use Rattle.calls.specs.Calls.{Request}
 use Rattle.claims.specs.Events.{Event}
 use Rattle.claims.specs.Words.{held}
@@ -68,7 +69,9 @@ module _ (rs : List Request) where
     pub line-count : (k : Kind) (n c : ℕ) → mapIn k (namespaceAt s n) .state ≡ Written c → (1 ≤ c) × (c ≤ maxLines) × (length (linesAt s k n) ≡ c)
     -- each of them is bounded, and no two overlap on either side
     pub lines-good : (k : Kind) (n : ℕ) → Good (linesAt s k n)
-    -- each parent-side ID of it has a line in the parent's map
+    -- document 02, L6: the parent side of each of them lies whole in one line of the parent's map
+    pub whole : (k : Kind) (n : ℕ) → allWhole (liesWhole (linesAt s k (namespaceAt s n .parent))) (linesAt s k n) ≡ true
+    -- so each single parent-side ID has a line in the parent's map
     pub covered : (k : Kind) (n z : ℕ) → OnParentSide (linesAt s k n) z → HasLine (linesAt s k (namespaceAt s n .parent)) z
     -- an unwritten map translates nothing, out or back
     pub unwritten : (k : Kind) (n x : ℕ) → mapIn k (namespaceAt s n) .state ≡ Unwritten

@@ -1,6 +1,6 @@
--- The bench runs of document 01 that are marked P, as one table: the calls, the reply that each is to get, and the
--- tables that they are to leave. `scenarios-come-out` of proofs/Scenarios.antt proves that the whole table comes out.
--- Assumes nothing.
+-- The bench runs of document 01 that are marked P, and those of document 02, as one table: the calls, the reply that
+-- each is to get, and the tables that they are to leave. `scenarios-come-out` of proofs/Scenarios.antt proves that the
+-- whole table comes out. Assumes nothing.
 use Prim.Native.Nat.{ℕ, _-_}
 use Prim.Native.Char.{code}
 use Prim.Native.String.{String, [] as empty, _∷_ as _then_}
@@ -101,14 +101,18 @@ process n u g set = record {
   effective = record { bits = set };
 }
 
--- the namespace that user 1000 has made in namespace 0
+-- a namespace with this parent, level and owner
+abbrev pub namespace : ℕ → ℕ → ℕ → (Kind → IdMap) → Bool → Namespace
+namespace parent level owner maps deny = record { live = true; parent = parent; level = level; owner = owner; users = maps User; groups = maps Group; deny = deny }
+
+-- the one that user 1000 has made in namespace 0
 abbrev pub madeBy1000 : (Kind → IdMap) → Bool → Namespace
-madeBy1000 maps deny = record { live = true; parent = 0; level = 1; owner = 1000; users = maps User; groups = maps Group; deny = deny }
+madeBy1000 maps deny = namespace 0 1 1000 maps deny
 
 abbrev pub line : ℕ → ℕ → ℕ → Line
 line inside parent count = record { inside = inside; parent = parent; count = count }
 
--- the maps of a namespace: both unwritten, or only the one of a kind written
+-- the maps of a namespace: both unwritten, only the one of a kind written, or both written alike
 abbrev pub unwritten : Kind → IdMap
 unwritten kind = record { state = Unwritten; lines = replicate 5 noLine }
 
@@ -120,6 +124,9 @@ only User ls User = written ls
 only User ls Group = unwritten Group
 only Group ls User = unwritten User
 only Group ls Group = written ls
+
+abbrev pub alike : List Line → Kind → IdMap
+alike ls kind = written ls
 
 -- document 01: process 2 is a fork of 1, set to group 1000 and then user 1000, and has unshared into namespace 1
 abbrev pub setup : List Entry
@@ -136,7 +143,35 @@ scenario entries maps = record { entries = setup ++ entries; processes = firstTw
 abbrev pub eachKind : (Kind → List Scenario) → List Scenario
 eachKind f = f User ++ f Group
 
--- ---- the table, in document 01's order; above each part stands its line
+-- document 02, L6: namespace 1 has these lines, and namespace 2 is below it. Process 2 is the root of the first, and
+-- process 3 is in the second
+abbrev pub parentText : String
+parentText = "0 100000 10\n10 100010 5\n"
+
+abbrev pub parentLines : List Line
+parentLines = line 0 100000 10 ∷ line 10 100010 5 ∷ []
+
+abbrev pub nested : List Entry
+nested =
+    fork 1 ⇒ child 2
+    ∷ unshare 2 ⇒ newNamespace 1
+    ∷ writeMap User 1 2 parentText ⇒ done
+    ∷ writeMap Group 1 2 parentText ⇒ done
+    ∷ setIds Group 2 0 ⇒ done
+    ∷ setIds User 2 0 ⇒ done
+    ∷ fork 2 ⇒ child 3
+    ∷ unshare 3 ⇒ newNamespace 2
+    ∷ []
+
+-- a scenario whose calls after these change nothing but the maps of namespace 2
+abbrev pub belowTwoLines : List Entry → (Kind → IdMap) → Scenario
+belowTwoLines entries maps = record {
+  entries = nested ++ entries;
+  processes = firstProcess ∷ process 1 100000 100000 fullSet ∷ process 2 100000 100000 fullSet ∷ [];
+  namespaces = rootNamespace ∷ namespace 0 1 0 (alike parentLines) false ∷ namespace 1 2 100000 maps false ∷ [];
+}
+
+-- ---- the table, in the papers' order; above each part stands its line
 abbrev pub scenarios : List Scenario
 scenarios =
     -- P: 2 writes user map `0 1000 1`: done; 2 reads `         0       1000          1` and a newline. A second write:
@@ -205,6 +240,17 @@ scenarios =
       processes = firstTwo ++ (process 0 1000 0 emptySet ∷ process 0 1001 0 emptySet ∷ []);
       namespaces = rootNamespace ∷ madeBy1000 unwritten false ∷ [];
     } ∷ [])
+    -- L6: With parent lines `0 100000 10` and `10 100010 5`, a child line `0 8 4` is now refused and `0 8 2` is still
+    -- done.
+    ++ eachKind (λ k.
+    belowTwoLines
+    (writeMap k 2 3 "0 8 4" ⇒ refused 1
+    ∷ writeMap k 2 3 "0 8 2" ⇒ done
+    ∷ translateOut k 1 2 1 ⇒ id 100009
+    ∷ translateOut k 1 2 2 ⇒ unmapped
+    ∷ [])
+    (only k (line 0 8 2 ∷ []))
+    ∷ [])
 
 -- ---- what is said of the table
 -- what comes out of calls: the calls with their answers, newest first, and the tables at the end but for what the code

@@ -1,5 +1,5 @@
 -- Translation level by level, as document 01 has it: over any parents and any lines, and `byLevels` over those of the
--- tables. Assumes nothing.
+-- tables, with document 02's ranges. Assumes nothing.
 use Prim.Native.Nat.{ℕ, zero, suc, _+_, _<_}
 use mathlib.Core.Path.{_≡_}
 use mathlib.Core.Bool.{cond}
@@ -11,6 +11,7 @@ use Rattle.idmap.specs.declared.Translated.{Translated}
 use Rattle.idmap.specs.declared.Translated.the-variants.{Unmapped}
 use Rattle.idmap.specs.Line.{noLine}
 use Rattle.idmap.specs.Lookup.{out, thenId, back}
+use Rattle.idmap.specs.Ranges.{liesWhole}
 use Rattle.idmap.specs.Good.{noId}
 use Rattle.records.specs.declared.Kind.{Kind}
 use Rattle.records.specs.Records.{mapIn, linesOf}
@@ -47,12 +48,13 @@ module _ (up : ℕ → ℕ) (lines : ℕ → List Line) where
   backBy zero n y = cond (eqb n 0) (itself y) Unmapped
   backBy (suc k) n y = cond (eqb n 0) (itself y) (thenId (backBy k (up n) y) (λ z. back (lines n) z))
 
--- document 01's translation: by the parents and the written lines that the tables have, in as many steps as the level
--- says
+-- the papers' translation: by the parents and the written lines that the tables have, in as many steps as the level
+-- says; and whether some line of a namespace's map has both ends of a range
 unfoldable pub byLevels : State → Translation
 byLevels s = record {
   out = λ (kind : Kind) (n x : ℕ). outBy (λ (m : ℕ). namespaceAt s m .parent) (λ (m : ℕ). linesOf (mapIn kind (namespaceAt s m))) (heightOf s n) n x;
   back = λ (kind : Kind) (n y : ℕ). backBy (λ (m : ℕ). namespaceAt s m .parent) (λ (m : ℕ). linesOf (mapIn kind (namespaceAt s m))) (heightOf s n) n y;
+  whole = λ (kind : Kind) (n : ℕ). liesWhole (linesOf (mapIn kind (namespaceAt s n)));
 }
 
 -- namespace n is b, or its parent is under b

@@ -1,14 +1,17 @@
--- Translation by lifted maps: what the code does. NOT to be believed: that on tables which calls leave it is
--- `byLevels`, document 01's, for every kind, namespace and number, is proved (`AsDocument` of claims). Assumes nothing.
+-- Translation by lifted maps, and ranges by a lookup's count: what the code does. NOT to be believed: that on tables
+-- which calls leave it is `byLevels`, the papers', for every kind, namespace and number, is proved (`AsDocument` of
+-- claims). Assumes nothing.
 use Prim.Native.Nat.{ℕ, zero, suc, _-_}
-use mathlib.Core.Bool.{cond}
+use mathlib.Core.Bool.{Bool, cond}
 use mathlib.Core.List.{List}
 use lib.Dec.{eqb}
 use Rattle.idmap.specs.declared.Line.{Line}
 use Rattle.idmap.specs.declared.Translated.{Translated}
 use Rattle.idmap.specs.declared.Translated.the-variants.{Unmapped}
 use Rattle.idmap.specs.Lookup.{out, thenId, back}
+use Rattle.idmap.specs.Ranges.{wholeByReach}
 use Rattle.records.specs.declared.Kind.{Kind}
+use Rattle.records.specs.Records.{mapIn, linesOf}
 use Rattle.lifted_map.specs.Lift.{Lifted, liftedOf}
 use Rattle.tables.specs.Tables.{State, maxLevel, namespaceAt, liftedAt, putLiftedMap}
 use Rattle.hierarchy.specs.Walks.{Translation, itself}
@@ -46,8 +49,12 @@ fromKernel s kind n y = fromKernelBy s kind (liftedAt s kind n) n y
 abbrev pub beside : State → State → Kind → ℕ → List Line → State
 beside s t kind n ls = putLiftedMap t kind n (liftedOf (liftedAt s kind (namespaceAt s n .parent)) (namespaceAt s n .parent) ls)
 
+-- whether a range of IDs lies whole in one line of the map of namespace n, by one lookup
+unfoldable pub wholeIn : State → Kind → ℕ → ℕ → ℕ → Bool
+wholeIn s kind n = wholeByReach (linesOf (mapIn kind (namespaceAt s n)))
+
 unfoldable pub byLiftedMaps : State → Translation
-byLiftedMaps s = record { out = toKernel s; back = fromKernel s }
+byLiftedMaps s = record { out = toKernel s; back = fromKernel s; whole = wholeIn s }
 
 -- a definition that takes a translation and the tables, by the lifted maps of these tables: how contracts cite it
 abbrev pub quick : {A : Type 0} → (Translation → State → A) → State → A

@@ -17,11 +17,13 @@ heightOf s n = min (namespaceAt s n .level) maxLevel
 
 -- ---- translation
 -- a translation at one moment: by kind and namespace, the kernel ID (document 01: station-wide ID) that an ID of the
--- namespace stands for, and the ID of the namespace that stands for a kernel ID. The definitions of the calls take one.
--- Document 01's is `byLevels` of claims/specs/Translation.antt
+-- namespace stands for, the ID of the namespace that stands for a kernel ID, and whether so many IDs from one on lie
+-- whole in one line of the namespace's map. The definitions of the calls take one. The papers' is `byLevels` of
+-- claims/specs/Translation.antt
 pub record Translation : Type 0 where
   pub out : Kind → ℕ → ℕ → Translated
   pub back : Kind → ℕ → ℕ → Translated
+  pub whole : Kind → ℕ → ℕ → ℕ → Bool
 
 -- in the initial namespace each ID but 'no ID' stands for itself
 abbrev pub itself : ℕ → Translated

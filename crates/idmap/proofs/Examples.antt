@@ -1,4 +1,4 @@
--- Examples of document 01, computed from the definitions. Assumes nothing.
+-- Examples of the papers, computed from the definitions. Assumes nothing.
 use mathlib.Core.Path.{_≡_, refl}
 use mathlib.Core.Bool.{true, false}
 use mathlib.Core.List.{List, [], _∷_, map}
@@ -7,9 +7,9 @@ use Prim.Native.Nat.{ℕ}
 use Rattle.prelude.specs.Lists.{consOf, allOf}
 use Rattle.idmap.specs.declared.Line.{Line}
 use Rattle.idmap.specs.declared.Translated.the-variants.{Id, Unmapped}
-use Rattle.idmap.specs.Lookup.{lookupOf, out, reachOf, flip, back}
+use Rattle.idmap.specs.Lookup.{lookupOf, out, flip, back}
 use Rattle.idmap.specs.Good.{fitsOf, boundedOf, apartSide, apartOf, allApart, goodOf}
-use Rattle.idmap.specs.Cover.{coveredIn, coveredOf, lookupsOf, coverOf}
+use Rattle.idmap.specs.Ranges.{oneHas, liesWhole}
 use Rattle.idmap.specs.Text.{pieces, filled, allDigits, decimal, decimalOf, numbersOf, threeOf, lineOf, textLines, checked, mapLines}
 
 abbrev line : ℕ → ℕ → ℕ → Line
@@ -49,28 +49,19 @@ counts-back : lookupOf (map flip adjoining) 100012 ≡ record { translated = Id 
 unfolding lookupOf
 counts-back = refl
 
--- the fixed line of namespace 0 covers all but the last value
-all-covered : coverOf (line 0 0 4294967295 ∷ []) 0 4294967295 ≡ record { covered = true; lookups = 1 }
-unfolding coveredIn coveredOf lookupsOf reachOf
-all-covered = refl
+-- the fixed line of namespace 0 has all but the last value
+all-whole : liesWhole (line 0 0 4294967295 ∷ []) 0 4294967295 ≡ true
+unfolding oneHas liesWhole
+all-whole = refl
 
--- a range in one line, one across two lines that touch, one that runs past them with one lookup for each line and one
--- more, and one whose ends alone have a line
-within : coverOf adjoining 8 2 ≡ record { covered = true; lookups = 1 }
-unfolding coveredIn coveredOf lookupsOf reachOf
-within = refl
+-- document 02, L6: of the lines `0 100000 10` and `10 100010 5` one has the IDs 8 and 9, and none has 8 to 11
+in-one : liesWhole adjoining 8 2 ≡ true
+unfolding oneHas liesWhole
+in-one = refl
 
-across : coverOf adjoining 8 4 ≡ record { covered = true; lookups = 2 }
-unfolding coveredIn coveredOf lookupsOf reachOf
-across = refl
-
-too-far : coverOf adjoining 8 8 ≡ record { covered = false; lookups = 3 }
-unfolding coveredIn coveredOf lookupsOf reachOf
-too-far = refl
-
-ends-only : coverOf (line 0 100000 10 ∷ line 20 100020 10 ∷ []) 5 20 ≡ record { covered = false; lookups = 2 }
-unfolding coveredIn coveredOf lookupsOf reachOf
-ends-only = refl
+across-two : liesWhole adjoining 8 4 ≡ false
+unfolding oneHas liesWhole
+across-two = refl
 
 -- "0 100000 10\n10 100010 5"
 two-lines : mapLines (48 ∷ 32 ∷ 49 ∷ 48 ∷ 48 ∷ 48 ∷ 48 ∷ 48 ∷ 32 ∷ 49 ∷ 48 ∷ 10 ∷ 49 ∷ 48 ∷ 32 ∷ 49 ∷ 48 ∷ 48 ∷ 48 ∷ 49 ∷ 48 ∷ 32 ∷ 53 ∷ []) ≡ some (line 0 100000 10 ∷ line 10 100010 5 ∷ [])

@@ -6,8 +6,7 @@ pub mod Interval
 pub mod Goodness
 pub mod Translation
 pub mod Reach
-pub mod Covers
-pub mod CoverLookups
+pub mod Ranges
 pub mod Scans
 pub mod Fields
 pub mod FirstLine

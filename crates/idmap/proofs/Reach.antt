@@ -5,16 +5,16 @@ use mathlib.Core.Path.{_≡_, refl, sym, ap, _∙_}
 use mathlib.Core.Bool.{true, false}
 use mathlib.Core.List.{List, [], _∷_, map}
 use mathlib.Core.Logic.{_↔_}
-use Prim.Native.Nat.{ℕ, suc, _+_, _-_, _<_, _^_}
+use Prim.Native.Nat.{ℕ, zero, suc, _+_, _-_, _<_, _^_}
 use native.Mathlib.Omega.{arith}
+use lib.ListN.{length, getD}
 use borrow.Author.Tests.{ltb-true}
 use Rattle.idmap.specs.declared.Line.{Line}
-use Rattle.idmap.specs.declared.Translated.{Translated}
 use Rattle.idmap.specs.declared.Translated.the-variants.{Id, Unmapped}
-use Rattle.idmap.specs.Line.{less, inRange}
+use Rattle.idmap.specs.Line.{less, inRange, noLine}
 use Rattle.idmap.specs.Lookup.{movedBy, leftFrom, out, reachOf, flip, back, Reaches}
-use Rattle.idmap.specs.Good.{goodOf}
-use Rattle.idmap.specs.Cover.{Mapped}
+use Rattle.idmap.specs.Good.{goodOf, Within}
+use Rattle.idmap.specs.Ranges.{HasLine}
 use Rattle.prelude.proofs.Tests.{by-test}
 use Rattle.idmap.proofs.Interval.{in-interval, interval-in}
 use Rattle.idmap.proofs.Goodness.{bounded-of, flip-good, good-first, good-others, apart-of}
@@ -55,6 +55,29 @@ pub reach-none : (ls : List Line) (x : ℕ) → (reachOf ls x ≡ 0) ↔ (out ls
 reach-none ls x = (none-unmapped ls x, unmapped-none ls x)
 
 -- ---- through a good map
+-- a line has the ID where the count is not 0, and the count goes to the end of the line that has it
+pub reach-has-line : (ls : List Line) (x : ℕ) → goodOf ls ≡ true → x < 2 ^ 32 → 0 < reachOf ls x → HasLine ls x
+unfolding reachOf
+reach-has-line [] x g small h = absurd (omega arith)
+reach-has-line (l ∷ ls) x g small h =
+    by-test (inRange x (l .inside) (l .count))
+    (λ t. (0, omega arith, in-interval x (l .inside) (l .count) small (good-first l ls g .inside-fits) t))
+    (λ t.
+    let m = reach-has-line ls x (good-others l ls g) small (rw (reach-later l ls x t) at h) in
+    (suc (m .0), omega (arith, m .1), m .2))
+
+pub reach-to-end : (ls : List Line) (x i : ℕ) → goodOf ls ≡ true → x < 2 ^ 32 → i < length ls → Within x (getD ls i noLine .inside) (getD ls i noLine .count)
+    → reachOf ls x ≡ getD ls i noLine .inside + getD ls i noLine .count - x
+reach-to-end [] x i g small h w = absurd (omega arith)
+reach-to-end (l ∷ ls) x zero g small h w =
+    reach-here l ls x (interval-in x (l .inside) (l .count) small (good-first l ls g .inside-fits) w) ∙ omega arith
+reach-to-end (l ∷ ls) x (suc i) g small h w =
+    by-test (inRange x (l .inside) (l .count))
+    (λ t.
+    let v = in-interval x (l .inside) (l .count) small (good-first l ls g .inside-fits) t in
+    absurd (apart-of (l ∷ ls) g 0 (suc i) (omega arith) h .on-inside x v w))
+    (λ t. reach-later l ls x t ∙ reach-to-end ls x i (good-others l ls g) small (omega arith) w)
+
 module _ (l : Line) (ls : List Line) (g : goodOf (l ∷ ls) ≡ true) (x y : ℕ) (small : x < 2 ^ 32) where
   -- the first line holds the ID
   reaches-here : inRange x (l .inside) (l .count) ≡ true → movedBy l x ≡ y → Reaches (l ∷ ls) x y (leftFrom l x)
@@ -102,13 +125,3 @@ reaches (l ∷ ls) x y g small e =
 
 pub reaches-back : (ls : List Line) (y x : ℕ) → goodOf ls ≡ true → y < 2 ^ 32 → back ls y ≡ Id x → Reaches (map flip ls) y x (reachOf (map flip ls) y)
 reaches-back ls y x g small e = reaches (map flip ls) y x (flip-good ls g) small e
-
--- so each ID in reach is mapped
-some-mapped : (ls : List Line) (x : ℕ) (r : Translated) → out ls x ≡ r → 0 < reachOf ls x → Mapped ls x
-some-mapped ls x (Id y) e h = (y, e)
-some-mapped ls x Unmapped e h = let z = unmapped-none ls x e in absurd (omega arith)
-
-pub reach-mapped : (ls : List Line) (x i : ℕ) → goodOf ls ≡ true → x < 2 ^ 32 → i < reachOf ls x → Mapped ls (x + i)
-reach-mapped ls x i g small h =
-    let m = some-mapped ls x (out ls x) refl (omega arith) in
-    (m .0 + i, reaches ls x (m .0) g small (m .1) .same-offset i h)

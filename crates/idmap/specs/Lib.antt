@@ -2,7 +2,7 @@ pub mod Line
 pub mod Lookup
 pub mod Batch
 pub mod Good
-pub mod Cover
+pub mod Ranges
 pub mod Text
 pub mod Show
 pub mod Scan

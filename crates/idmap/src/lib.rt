@@ -1,9 +1,9 @@
 // ID maps: their lines, the lookups through them, the tests of a map that is to be written, and the text of a map.
 // User and group maps use the same code. Nothing here knows a table, a process or a namespace.
 pub mod batch;
-pub mod cover;
 pub mod lookup;
 pub mod overlap;
+pub mod range;
 pub mod show;
 pub mod text;
 

@@ -19,7 +19,7 @@ use Rattle.idmap.specs.declared.text.MapText.{MapText}
 use Rattle.idmap.specs.declared.text.Parsed.the-variants.{Lines, Bad}
 use Rattle.idmap.specs.Line.{noLine, linesIn}
 use Rattle.idmap.specs.Good.{maxLines}
-use Rattle.idmap.specs.Cover.{coveredOf}
+use Rattle.idmap.specs.Ranges.{wholeByReach}
 use Rattle.idmap.specs.Text.{maxTextBytes, mapLines, mapText, padded}
 use Rattle.lifted_map.specs.Lift.{liftedOf, liftedIn}
 use Rattle.records.specs.declared.Kind.{Kind}
@@ -40,8 +40,8 @@ use Rattle.tables.specs.Find.{callerNamed, processNamed}
 use Rattle.tables.specs.Reply.{Outcome, Promise}
 use Rattle.tables.proofs.Promises.{refuses, answers}
 use Rattle.hierarchy.specs.Walks.{Translation, capableIn}
-use Rattle.hierarchy.specs.Lifted.{toKernel, byLiftedMaps}
-use Rattle.mapping.specs.Calls.{isNear, isId, mayByKind, singleLine, mayMap, allCovered, withMap, writtenMap, mappedTables, writeLinesTo, writeMapTo, writeMapOf}
+use Rattle.hierarchy.specs.Lifted.{toKernel, wholeIn, byLiftedMaps}
+use Rattle.mapping.specs.Calls.{isNear, isId, mayByKind, singleLine, mayMap, allWhole, withMap, writtenMap, mappedTables, writeLinesTo, writeMapTo, writeMapOf}
 
 -- ---- near
 module _ (w : Process) (n : ℕ) (m : Namespace) where
@@ -108,26 +108,29 @@ module _ (by : Translation) (s : State) (kind : Kind) (w : Process) (m : Namespa
   unfolding mayMap
   may-single b y e = e ∙ sym (rw (← num, ← q, y))
 
--- ---- all_covered
-module _ (above ls : List Line) (n i : ℕ) (inv : allCovered above (take n ls) ≡ allCovered above (drop i (take n ls))) where
-  pub covered-past : n ≤ i → true ≡ allCovered above (take n ls)
-  unfolding allCovered
-  covered-past h = sym (inv ∙ rw (left-none ls n i (omega arith)))
+-- ---- all_whole
+module _ (above ls : List Line) (n i : ℕ) (inv : allWhole (wholeByReach above) (take n ls) ≡ allWhole (wholeByReach above) (drop i (take n ls))) where
+  abbrev whole : ℕ → ℕ → Bool
+  whole = wholeByReach above
 
-  pub covered-end : (k : ℕ) → length ls ≡ k → k ≤ i → true ≡ allCovered above (take n ls)
-  unfolding allCovered
-  covered-end k e h = sym (inv ∙ rw (left-none ls n i (omega arith)))
+  pub whole-past : n ≤ i → true ≡ allWhole whole (take n ls)
+  unfolding allWhole
+  whole-past h = sym (inv ∙ rw (left-none ls n i (omega arith)))
 
-  module _ (k : ℕ) (e : length ls ≡ k) (below : i < k) (more : i < n) (t : Bool) (q : t ≡ coveredOf above (getD ls i noLine .parent) (getD ls i noLine .count)) where
-    covered-at : allCovered above (take n ls) ≡ (t && allCovered above (drop (i + 1) (take n ls)))
-    unfolding allCovered
-    covered-at = inv ∙ rw (left-step ls n i noLine more (omega arith), ← q)
+  pub whole-end : (k : ℕ) → length ls ≡ k → k ≤ i → true ≡ allWhole whole (take n ls)
+  unfolding allWhole
+  whole-end k e h = sym (inv ∙ rw (left-none ls n i (omega arith)))
 
-    pub covered-step : t ≡ true → allCovered above (take n ls) ≡ allCovered above (drop (i + 1) (take n ls))
-    covered-step y = rw y at covered-at
+  module _ (k : ℕ) (e : length ls ≡ k) (below : i < k) (more : i < n) (t : Bool) (q : t ≡ whole (getD ls i noLine .parent) (getD ls i noLine .count)) where
+    whole-at : allWhole whole (take n ls) ≡ (t && allWhole whole (drop (i + 1) (take n ls)))
+    unfolding allWhole
+    whole-at = inv ∙ rw (left-step ls n i noLine more (omega arith), ← q)
 
-    pub covered-no : t ≡ false → false ≡ allCovered above (take n ls)
-    covered-no y = sym (rw y at covered-at)
+    pub whole-step : t ≡ true → allWhole whole (take n ls) ≡ allWhole whole (drop (i + 1) (take n ls))
+    whole-step y = rw y at whole-at
+
+    pub whole-no : t ≡ false → false ≡ allWhole whole (take n ls)
+    whole-no y = sym (rw y at whole-at)
 
 -- ---- with_map
 module _ (kind : Kind) (n : Namespace) (m : IdMap) where
@@ -158,7 +161,10 @@ lines-some (some ls) k e =
     (ap some (sym f), ap length f ∙ h, ap padded (sym f))
 
 -- ---- write_lines
-module _ (by : Translation) (l text : List ℕ) (kind : Kind) (w : Process) (n : ℕ) (m : Namespace) (tgt : m ≡ namespaceAt (tablesOf l) n) (r : MapText) (f : r ≡ mapText (mapLines text)) where
+module _ (l text : List ℕ) (kind : Kind) (w : Process) (n : ℕ) (m : Namespace) (tgt : m ≡ namespaceAt (tablesOf l) n) (r : MapText) (f : r ≡ mapText (mapLines text)) where
+  abbrev by : Translation
+  by = byLiftedMaps (tablesOf l)
+
   pub lines-bad : r .parsed ≡ Bad → Promise (Refused EINVAL) l l (writeLinesTo by (tablesOf l) kind w n text)
   unfolding writeLinesTo
   lines-bad e =
@@ -180,13 +186,14 @@ module _ (by : Translation) (l text : List ℕ) (kind : Kind) (w : Process) (n :
       unfolding writeLinesTo
       lines-denied y = refuses EPERM l (writeLinesTo by (tablesOf l) kind w n text) (sym (rw (read-lines, ← tgt, ← q, y)))
 
-      module _ (y : t ≡ true) (ws : List ℕ) (above : linesIn ws ≡ linesOf (mapIn kind (namespaceAt (tablesOf l) (m .parent)))) (u : Bool) (g : u ≡ allCovered (linesIn ws) (take k (r .lines))) where
-        cover-is : u ≡ allCovered (linesOf (mapIn kind (namespaceAt (tablesOf l) (m .parent)))) (take k (r .lines))
-        cover-is = rw above at g
+      module _ (y : t ≡ true) (ws : List ℕ) (above : linesIn ws ≡ linesOf (mapIn kind (namespaceAt (tablesOf l) (m .parent)))) (u : Bool) (g : u ≡ allWhole (wholeByReach (linesIn ws)) (take k (r .lines))) where
+        whole-above : u ≡ allWhole (by .whole kind (m .parent)) (take k (r .lines))
+        unfolding byLiftedMaps wholeIn
+        whole-above = rw above at g
 
-        pub lines-uncovered : u ≡ false → Promise (Refused EPERM) l l (writeLinesTo by (tablesOf l) kind w n text)
+        pub lines-across : u ≡ false → Promise (Refused EPERM) l l (writeLinesTo by (tablesOf l) kind w n text)
         unfolding writeLinesTo
-        lines-uncovered z = refuses EPERM l (writeLinesTo by (tablesOf l) kind w n text) (sym (rw (read-lines, ← tgt, ← q, y, ← cover-is, z)))
+        lines-across z = refuses EPERM l (writeLinesTo by (tablesOf l) kind w n text) (sym (rw (read-lines, ← tgt, ← q, y, ← whole-above, z)))
 
         pub lines-done : (new : Namespace) (l′ l″ lifted : List ℕ) (ls : List Line) (b : ℕ) → u ≡ true
             → ls ≡ liftedAt (tablesOf l) kind (m .parent) .lines → b ≡ liftedAt (tablesOf l) kind (m .parent) .base
@@ -197,7 +204,7 @@ module _ (by : Translation) (l text : List ℕ) (kind : Kind) (w : Process) (n :
         unfolding writeLinesTo mappedTables
         lines-done new l′ l″ lifted ls b z high low c e p p′ =
             answers Done l l″ (writeLinesTo by (tablesOf l) kind w n text) refl
-            (rw (read-lines, ← tgt, ← q, y, ← cover-is, z, p′, p, e, read-map, c, high, low))
+            (rw (read-lines, ← tgt, ← q, y, ← whole-above, z, p′, p, e, read-map, c, high, low))
 
 -- ---- write_to
 -- a promise of one outcome is one of an equal outcome
@@ -272,12 +279,12 @@ pub ruleset tests = (
   needs,
 )
 
-pub ruleset covering = (covered-past, covered-end, covered-step, covered-no, not-taken, not-left, needs)
+pub ruleset wholly = (whole-past, whole-end, whole-step, whole-no, not-taken, not-left, needs)
 
 pub ruleset writing = (
   lines-bad,
   lines-denied,
-  lines-uncovered,
+  lines-across,
   lines-done,
   to-initial,
   to-far,

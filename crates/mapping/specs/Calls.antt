@@ -13,7 +13,6 @@ use Rattle.idmap.specs.declared.Translated.{Translated}
 use Rattle.idmap.specs.declared.Translated.the-variants.{Id, Unmapped}
 use Rattle.idmap.specs.Good.{maxLines, noId}
 use Rattle.idmap.specs.Lookup.{orNoId}
-use Rattle.idmap.specs.Cover.{coveredOf}
 use Rattle.idmap.specs.Text.{maxTextBytes, mapLines, padded}
 use Rattle.idmap.specs.Show.{linesText}
 use Rattle.records.specs.declared.Kind.{Kind}
@@ -59,10 +58,11 @@ singleLine by kind w target (l ∷ m ∷ ls) = false
 unfoldable pub mayMap : Translation → State → Kind → Process → Namespace → List Line → Bool
 mayMap by s kind w target ls = capableIn s w (target .parent) (setIdOf kind) || singleLine by kind w target ls
 
--- each parent-side ID has a line in the parent's map
-unfoldable pub allCovered : List Line → List Line → Bool
-allCovered above [] = true
-allCovered above (l ∷ ls) = coveredOf above (l .parent) (l .count) && allCovered above ls
+-- document 02, L6: each line's parent side lies whole in one line of the parent's map. whole: whether so many IDs from
+-- one on do
+unfoldable pub allWhole : (ℕ → ℕ → Bool) → List Line → Bool
+allWhole whole [] = true
+allWhole whole (l ∷ ls) = whole (l .parent) (l .count) && allWhole whole ls
 
 abbrev pub writtenMap : List Line → IdMap
 writtenMap ls = record { state = Written (length ls); lines = padded ls }
@@ -80,12 +80,12 @@ unfoldable pub mappedTables : State → Kind → ℕ → List Line → State
 mappedTables s kind n ls =
     beside s (putNamespace s n (withMap kind (namespaceAt s n) (writtenMap ls))) kind n ls
 
--- the lines of the text, the writer's right to them, and their cover; then the map is stored
+-- the lines of the text, the writer's right to them, and that each lies in a line above; then the map is stored
 unfoldable pub writeLinesTo : Translation → State → Kind → Process → ℕ → List ℕ → Outcome
 writeLinesTo by s kind w n text =
     thenLines (mapLines text) (refuse s 22) (λ ls.
     unless (mayMap by s kind w (namespaceAt s n) ls) (refuse s 1)
-    (unless (allCovered (linesOf (mapIn kind (namespaceAt s (namespaceAt s n .parent)))) ls) (refuse s 1)
+    (unless (allWhole (by .whole kind (namespaceAt s n .parent)) ls) (refuse s 1)
     (record { reply = done; tables = mappedTables s kind n ls })))
 
 -- the write to namespace n by process w

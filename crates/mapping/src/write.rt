@@ -2,17 +2,18 @@
 ghost use mathlib.Core.Path.{_≡_};
 ghost use lib.ListN.{take};
 ghost use Rattle.idmap.specs.Line.{linesIn};
+ghost use Rattle.idmap.specs.Ranges.{wholeByReach};
 ghost use Rattle.tables.specs.Tables.{tablesOf, namespaceAt};
 ghost use Rattle.tables.specs.Reply.{Promise};
 ghost use Rattle.hierarchy.specs.Lifted.{byLiftedMaps, quick};
-ghost use Rattle.mapping.specs.Calls.{isNear, isId, mayByKind, singleLine, mayMap, allCovered, withMap, writeLinesTo, writeMapTo, writeMapOf};
+ghost use Rattle.mapping.specs.Calls.{isNear, isId, mayByKind, singleLine, mayMap, allWhole, withMap, writeLinesTo, writeMapTo, writeMapOf};
 use hierarchy::capable::capable;
 use hierarchy::translate::to_kernel;
 use idmap::Line;
 use idmap::MAX_LINES;
 use idmap::MAX_TEXT_BYTES;
 use idmap::Translated;
-use idmap::cover::covered;
+use idmap::range::lies_whole;
 use idmap::text::Parsed;
 use idmap::text::parse_map;
 use lifted_map::LIFTED_WIDTH;
@@ -120,9 +121,9 @@ fn may_map(
     single_line(t, kind, w, target, lines, count)
 }
 
-// Whether each parent-side ID of the lines has a line in the map above.
-fn all_covered(above: &[u64], lines: [Line; MAX_LINES], count: usize) -> bool
-    ensures { λ r. ⌜ r ≡ allCovered (linesIn (now (above .entry))) (take count lines) ⌝ }
+// Whether the parent side of each of the lines lies whole in one line of the map above.
+fn all_whole(above: &[u64], lines: [Line; MAX_LINES], count: usize) -> bool
+    ensures { λ r. ⌜ r ≡ allWhole (wholeByReach (linesIn (now (above .entry)))) (take count lines) ⌝ }
 {
     let mut i: usize = 0;
     while i < MAX_LINES {
@@ -130,7 +131,7 @@ fn all_covered(above: &[u64], lines: [Line; MAX_LINES], count: usize) -> bool
             return true;
         }
         let l = lines[i];
-        if !covered(above, l.parent, l.count) {
+        if !lies_whole(above, l.parent, l.count) {
             return false;
         }
         i += 1;
@@ -166,7 +167,7 @@ fn with_map(kind: Kind, n: Namespace, map: IdMap) -> Namespace
 }
 
 // The write to namespace `n`, whose record is `target`, where the text is to be read: its lines, the writer's right to
-// them and their cover tested, and the map stored.
+// them and the lines above them tested, and the map stored.
 fn write_lines(
     t: &mut Tables,
     kind: Kind,
@@ -189,8 +190,8 @@ fn write_lines(
     if !may_map(t, kind, w, target, lines, count) {
         return Answer::Refused(Errno::EPERM);
     }
-    // 1 if any parent-side ID has no line in the parent's map.
-    if !all_covered(map_lines(t, target.parent as usize, kind), lines, count) {
+    // 1 unless each new line's parent side lies whole in one parent line.
+    if !all_whole(map_lines(t, target.parent as usize, kind), lines, count) {
         return Answer::Refused(Errno::EPERM);
     }
     let map = IdMap {
@@ -243,9 +244,9 @@ fn write_to(t: &mut Tables, kind: Kind, w: Process, n: u64, text: &[u8]) -> Answ
 // Writes the map of a kind of the namespace that process `name` is in. Refuses: 3 no caller or no such process; 1 the
 // target is the initial namespace, or the writer is neither in it nor in its parent; 22 a text of 0 or over 4,095
 // bytes; 1 already written; 1 without SETUID (SETGID) in the target; 22 bad text; 1 without the capability in the
-// parent where the text is no single line of the writer's own; 1 a parent-side ID without a line in the parent's map.
-// Ruled out, for instance: a map stored with IDs that the parent does not map; an empty text told before a writer from
-// elsewhere.
+// parent where the text is no single line of the writer's own; 1 a line whose parent side does not lie whole in one line
+// of the parent's map. Ruled out, for instance: a map stored with IDs that the parent does not map; an empty text told
+// before a writer from elsewhere.
 pub fn write_map(t: &mut Tables, kind: Kind, caller: u64, name: u64, text: &[u8]) -> Answer
     ensures { λ r. ⌜ Promise r (now (t .entry)) (now (t .exit)) (quick writeMapOf (tablesOf (now (t .entry))) kind caller name (now (text .entry))) ⌝ }
 {

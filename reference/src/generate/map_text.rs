@@ -92,17 +92,18 @@ impl Generator {
         self.tables.from_kernel(kind, namespace, id)
     }
 
-    /// Lines whose parent sides are covered by the lines above, and often hold the member's ID.
+    /// Lines whose parent sides lie whole in lines above, and often hold the member's ID.
     fn lines_within(&mut self, above: &[Line], member: Option<u32>) -> Vec<Numbers> {
         if above.is_empty() {
             return vec![[0, 0, 1]];
         }
         match (self.random.below(10), member) {
             (0 | 1, _) => self.lines_that_lose_none(above),
-            (2, _) => match self.span(above) {
-                (start, count) if self.random.chance(50) => vec![[start, start, count]],
-                (start, count) => vec![[0, start, count]],
-            },
+            (2, _) => {
+                let line = self.random.pick(above);
+                let (start, count) = (u64::from(line.inside), u64::from(line.count));
+                vec![[if self.random.chance(50) { start } else { 0 }, start, count]]
+            }
             (3..=7, Some(member)) => {
                 let range = self.part_with(above, member);
                 self.pieces(range)
@@ -114,14 +115,13 @@ impl Generator {
         }
     }
 
-    /// Lines that cover all that the lines above cover.
+    /// Lines that have all that the lines above have.
     pub(super) fn lines_that_lose_none(&mut self, above: &[Line]) -> Vec<Numbers> {
-        let (start, count) = self.span(above);
-        let all: u64 = above.iter().map(|line| u64::from(line.count)).sum();
-        if count == all && self.random.chance(50) {
-            self.pieces((start, count))
-        } else {
-            self.same_lines(above)
+        match above {
+            [line] if self.random.chance(50) => {
+                self.pieces((u64::from(line.inside), u64::from(line.count)))
+            }
+            _ => self.same_lines(above),
         }
     }
 
@@ -136,17 +136,6 @@ impl Generator {
             next += count;
         }
         lines
-    }
-
-    /// The range from the lowest ID above on, through all lines that adjoin.
-    fn span(&self, above: &[Line]) -> (u64, u64) {
-        let lowest = above.iter().map(|line| u64::from(line.inside)).min();
-        let start = lowest.unwrap_or(0);
-        let mut end = start;
-        while let Some(line) = above.iter().find(|line| u64::from(line.inside) == end) {
-            end = line.inside_end();
-        }
-        (start, end - start)
     }
 
     /// A part of one line above.
@@ -167,15 +156,15 @@ impl Generator {
         (start + offset, length)
     }
 
-    /// A part of the range through all adjoining lines above that holds an ID, or just that ID.
+    /// A part of the line above that has an ID with that ID in it, or just the ID.
     fn part_with(&mut self, above: &[Line], id: u32) -> (u64, u64) {
-        let (start, count) = self.span(above);
         let id = u64::from(id);
-        if id < start || id >= start + count {
+        let has = |line: &&Line| u64::from(line.inside) <= id && id < line.inside_end();
+        let Some(line) = above.iter().find(has) else {
             return (id, 1);
-        }
-        let first = id - self.random.below((id - start).min(5) + 1);
-        let most = start + count - first;
+        };
+        let first = id - self.random.below((id - u64::from(line.inside)).min(5) + 1);
+        let most = line.inside_end() - first;
         let length = self.random.pick(&[1, 2, 10, 20, 1000, 65_536]);
         (first, length.max(id + 1 - first).min(most))
     }
@@ -229,17 +218,23 @@ impl Generator {
         }
     }
 
-    /// A line that starts in a line above and runs over its edge, or from one line above to another.
+    /// A line that starts in a line above and runs over its edge, or from one line above to another, which adjoins
+    /// the first if one does.
     fn line_over_the_edge(&mut self, above: &[Line]) -> Vec<Numbers> {
         if above.is_empty() {
             return vec![[0, 0, 2]];
         }
-        let (first, other) = (self.random.pick(above), self.random.pick(above));
-        let start = first.inside_end() - 1;
-        let end = other.inside_end().max(start + 2);
+        let first = self.random.pick(above);
         if self.random.chance(30) && first.inside > 0 {
             return vec![[0, u64::from(first.inside) - 1, 2]];
         }
+        let adjoins = |line: &&Line| u64::from(line.inside) == first.inside_end();
+        let other = match above.iter().find(adjoins) {
+            Some(line) => *line,
+            None => self.random.pick(above),
+        };
+        let start = first.inside_end() - 1;
+        let end = other.inside_end().max(start + 2);
         vec![[0, start, end - start]]
     }
 

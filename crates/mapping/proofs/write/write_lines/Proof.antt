@@ -9,14 +9,14 @@ returns-4 c =
     let at-map = c .before .before .before in
     let at-lifted = at-map .before .before .before in
     let at-base = at-lifted .before .before in
-    let at-covered = at-base .before .before .before in
-    let at-above = at-covered .before .before in
+    let at-whole = at-base .before .before .before in
+    let at-above = at-whole .before .before in
     let at-allowed = at-above .before .before in
     let at-lines = at-allowed .before .before .before .before in
     let at-text = at-lines .before .before .before in
     let start = at-text .before .before in
-    lines-done _ _ _ _ _ _ _ (start .pre) _ (at-text .parse-map .ensures) _ (at-lines .parsed .given .1) _ (at-allowed .before .may-map .ensures) (not-left _ (at-allowed .if1 .left))
-    _ (at-above .map-lines .ensures) _ (at-covered .before .all-covered .ensures) _ _ _ _ _ _ (not-left _ (at-covered .if2 .left))
+    lines-done _ _ _ _ _ _ (start .pre) _ (at-text .parse-map .ensures) _ (at-lines .parsed .given .1) _ (at-allowed .before .may-map .ensures) (not-left _ (at-allowed .if1 .left))
+    _ (at-above .map-lines .ensures) _ (at-whole .before .all-whole .ensures) _ _ _ _ _ _ (not-left _ (at-whole .if2 .left))
     (at-base .before .lifted-lines .ensures) (at-base .lifted-base .ensures) (at-lifted .lift .ensures) (at-map .before .with-map .ensures)
     (at-map .namespace-put .ensures) (c .lifted-map-put .ensures)
 
@@ -30,7 +30,7 @@ write-lines-spec =
     (λ c κs. search writing)  -- may-map-requires
     (λ c. search writing)  -- returns-2
     (λ c κs. search writing)  -- map-lines-requires
-    (λ c κs. search writing)  -- all-covered-requires
+    (λ c κs. search writing)  -- all-whole-requires
     (λ c. search writing)  -- returns-3
     (λ c κs. search writing)  -- lifted-lines-requires
     (λ c κs. search writing)  -- lifted-base-requires
