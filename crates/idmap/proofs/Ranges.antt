@@ -84,13 +84,17 @@ module _ (ls : List Line) (start count : ℕ) (g : goodOf ls ≡ true) where
   pub whole-by-reach : wholeByReach ls start count ≡ liesWhole ls start count
   whole-by-reach = test-same _ _ reach-whole whole-reach
 
--- ---- lies_whole: the number of IDs past the first is below the count that the lookup tells
-pub whole-is : (ls : List Line) (start count d : ℕ) (f : LookedUp) → start < 2 ^ 32 → (d + 1) % 2 ^ 32 ≡ count → d < 2 ^ 32
-    → f ≡ lookupOf (map (facingOf false) ls) start → f .reach < 2 ^ 32 → ltb d (f .reach) ≡ wholeByReach ls start count
+-- ---- lies_whole
+-- the last of count IDs is d past the first
+last-past : (start d last : ℕ) → start < 2 ^ 32 → d < 2 ^ 32 → last ≡ (start + d) % 2 ^ 32 → less last start ≡ d
+last-past start d last h k e = omega arith
+
+-- it is in the reach of the first one's line
+pub whole-is : (ls : List Line) (start count d last : ℕ) (f : LookedUp) (r : Bool) → start < 2 ^ 32 → (d + 1) % 2 ^ 32 ≡ count → d < 2 ^ 32
+    → last ≡ (start + d) % 2 ^ 32 → f ≡ lookupOf (map (facingOf false) ls) start → f .reach < 2 ^ 32 → r ≡ inRange last start (f .reach) → r ≡ wholeByReach ls start count
 unfolding wholeByReach
-whole-is ls start count d f small e h read top =
-    let r = reach-forth ls start f read in
-    rw (lt-ltb start (2 ^ 32) small, ← r)
+whole-is ls start count d last f r small e h past read top tested =
+    tested ∙ rw (last-past start d last small h past, lt-ltb start (2 ^ 32) small, ← reach-forth ls start f read)
     (test-same (ltb d (f .reach)) (ltb 0 count && leb count (f .reach))
     (λ t. let q = ltb-true d (f .reach) t in and-i _ _ (lt-ltb 0 count (omega arith)) (le-leb count (f .reach) (omega arith)))
     (λ t.
