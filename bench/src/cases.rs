@@ -277,12 +277,7 @@ fn questions() -> Vec<Row> {
     vec![
         own_ids("getids, no groups", &common, 1, one_call),
         own_ids("getids, 4 groups", &common, ROOT, three_calls),
-        own_ids(
-            "getids, 16 groups, 8 levels",
-            &State::deep(8).with_own_ids(9),
-            9,
-            Kernel::None,
-        ),
+        own_ids("getids, 16 groups, 8 levels", &State::deep(8).with_own_ids(9), 9, Kernel::None),
         capable("capable, 1 level up", &common, NAMESPACE),
         capable("capable, 32 levels up", &State::deep(LAST_LEVEL), LAST_LEVEL),
     ]
