@@ -161,8 +161,8 @@ int64_t oarhatchet_setns(uint64_t tables[OARHATCHET_TABLES], uint64_t caller, ui
  * EPERM: that namespace is namespace 0, or the caller is neither in it nor in its parent. EINVAL: the text has 0 or
  * more than 4095 bytes. EPERM: the map is written already, or the caller does not hold OARHATCHET_CAP_SETUID, for a
  * group map OARHATCHET_CAP_SETGID, in the namespace. EINVAL: the text is bad. EPERM: the caller does not hold that
- * capability in the parent, and the text does more than map its own ID; or an ID of the parent side is not in the
- * parent's map.
+ * capability in the parent, and the text does more than map its own ID; or the parent side of a line does not lie
+ * whole in one line of the parent's map.
  */
 int64_t oarhatchet_write_uid_map(
     uint64_t tables[OARHATCHET_TABLES], uint64_t caller, uint64_t process, const uint8_t *text, size_t length);

@@ -122,8 +122,8 @@ impl Tables {
     /// parent; [`Errno::Einval`] where the text has 0 or more than 4095 bytes; [`Errno::Eperm`] where the map is
     /// written already, or the caller does not hold [`CAP_SETUID`](crate::CAP_SETUID), for a group map
     /// [`CAP_SETGID`](crate::CAP_SETGID), in the namespace; [`Errno::Einval`] where the text is bad; [`Errno::Eperm`]
-    /// where the caller does not hold that capability in the parent and the text does more than map its own ID, or an
-    /// ID of the parent side is not in the parent's map.
+    /// where the caller does not hold that capability in the parent and the text does more than map its own ID, or the
+    /// parent side of a line does not lie whole in one line of the parent's map.
     ///
     /// ```
     /// use oarhatchet::{Errno, Kind, Tables};

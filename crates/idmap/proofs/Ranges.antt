@@ -1,9 +1,9 @@
 -- A range that lies whole in one line: of a good map a lookup's count decides it, and each single ID of the range has a
 -- line. Assumes nothing.
 use mathlib.Core.Path.{_≡_, sym, _∙_}
-use mathlib.Core.Bool.{Bool, true, false, _&&_, _||_, true≢false}
+use mathlib.Core.Bool.{Bool, true, false, _&&_, true≢false}
 use mathlib.Core.List.{List, [], _∷_, map}
-use Prim.Native.Nat.{ℕ, zero, suc, _+_, _-_, _%_, _≤_, _<_, _^_}
+use Prim.Native.Nat.{ℕ, zero, suc, _+_, _-_, _%_, _<_, _^_}
 use native.Mathlib.Omega.{arith}
 use lib.Dec.{leb, ltb}
 use lib.ListN.{length, getD}
@@ -13,7 +13,7 @@ use Rattle.idmap.specs.declared.Line.{Line}
 use Rattle.idmap.specs.declared.LookedUp.{LookedUp}
 use Rattle.idmap.specs.Line.{less, inRange, noLine}
 use Rattle.idmap.specs.Lookup.{lookupOf, reachOf, facingOf}
-use Rattle.idmap.specs.Good.{noId, goodOf, Within}
+use Rattle.idmap.specs.Good.{goodOf, Within}
 use Rattle.idmap.specs.Ranges.{has, oneHas, liesWhole, HasLine, wholeByReach}
 use Rattle.prelude.proofs.Tests.{by-test, test-same, both, and-i}
 use Rattle.idmap.proofs.Goodness.{bounded-of}
