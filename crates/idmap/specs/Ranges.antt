@@ -9,7 +9,8 @@ use Rattle.idmap.specs.Line.{noLine}
 use Rattle.idmap.specs.Lookup.{reachOf}
 use Rattle.idmap.specs.Good.{Within}
 
--- the ID is on the line's inside. For a line of a good map this is `inRange`: `interval-test` of proofs/Interval.antt
+-- the ID is on the line's inside. For a line of a good map and a 32-bit ID this is `inRange`: `interval-test` of
+-- proofs/Interval.antt
 abbrev pub has : Line → ℕ → Bool
 has l x = leb (l .inside) x && ltb x (l .inside + l .count)
 

@@ -191,9 +191,9 @@ module _ (l text : List ℕ) (kind : Kind) (w : Process) (n : ℕ) (m : Namespac
         unfolding byLiftedMaps wholeIn
         whole-above = rw above at g
 
-        pub lines-across : u ≡ false → Promise (Refused EPERM) l l (writeLinesTo by (tablesOf l) kind w n text)
+        pub lines-not-whole : u ≡ false → Promise (Refused EPERM) l l (writeLinesTo by (tablesOf l) kind w n text)
         unfolding writeLinesTo
-        lines-across z = refuses EPERM l (writeLinesTo by (tablesOf l) kind w n text) (sym (rw (read-lines, ← tgt, ← q, y, ← whole-above, z)))
+        lines-not-whole z = refuses EPERM l (writeLinesTo by (tablesOf l) kind w n text) (sym (rw (read-lines, ← tgt, ← q, y, ← whole-above, z)))
 
         pub lines-done : (new : Namespace) (l′ l″ lifted : List ℕ) (ls : List Line) (b : ℕ) → u ≡ true
             → ls ≡ liftedAt (tablesOf l) kind (m .parent) .lines → b ≡ liftedAt (tablesOf l) kind (m .parent) .base
@@ -284,7 +284,7 @@ pub ruleset wholly = (whole-past, whole-end, whole-step, whole-no, not-taken, no
 pub ruleset writing = (
   lines-bad,
   lines-denied,
-  lines-across,
+  lines-not-whole,
   lines-done,
   to-initial,
   to-far,
