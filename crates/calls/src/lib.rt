@@ -1,7 +1,7 @@
 // Every call of document 01 through one entry point, so that a list of calls is a loop over one function.
 ghost use Rattle.tables.specs.Tables.{tablesOf};
 ghost use mathlib.Core.Path.{_≡_};
-ghost use Rattle.hierarchy.specs.Lifted.{quick};
+ghost use Rattle.hierarchy.specs.KernelStarts.{quick};
 ghost use Rattle.calls.specs.Calls.{plainOf, ownOf, answerBy, CallPromise};
 use credentials::own::NO_OWN_IDS;
 use credentials::own::OwnAnswer;

@@ -6,7 +6,7 @@ use lib.ListN.{length}
 use Rattle.tables.specs.Tables.{State, tablesOf, initialTables}
 use Rattle.tables.specs.Reply.{Reply}
 use Rattle.hierarchy.specs.Walks.{Translation}
-use Rattle.hierarchy.specs.Lifted.{byLiftedMaps}
+use Rattle.hierarchy.specs.KernelStarts.{byKernelStarts}
 use Rattle.calls.specs.Calls.{Request, Step, callReply}
 use Rattle.journal.specs.declared.read.Record.{Record}
 use Rattle.journal.specs.declared.read.Read.the-variants.{Found}
@@ -48,13 +48,13 @@ record Chain (a : List ℕ) (h : List Entry) : Type 0 where
 
 -- one step more
 link : (a b after : List ℕ) (h : List Entry) (r : Request) (reply : Reply) → Chain a h → Fits r
-    → _≡_ {A = Step} (record { reply = reply; tables = tablesOf b; buffer = after }) (stepOf byLiftedMaps (tablesOf a) r)
+    → _≡_ {A = Step} (record { reply = reply; tables = tablesOf b; buffer = after }) (stepOf byKernelStarts (tablesOf a) r)
     → Chain b (record { request = r; reply = reply; buffer = after } ∷ h)
 unfolding requestsOf
 link a b after h r reply c f o =
     let rs = requestsOf h in
     let e : _≡_ {A = Step} (record { reply = reply; tables = tablesOf b; buffer = after }) (stepOf byLevels (run rs) r) =
-    o ∙ ap (λ (s : State). stepOf byLiftedMaps s r) (c .tables) ∙ as-document rs (c .fit) .step r in
+    o ∙ ap (λ (s : State). stepOf byKernelStarts s r) (c .tables) ∙ as-document rs (c .fit) .step r in
     record {
       tables = ap (λ (s : Step). s .tables) e ∙ sym (run-more byLevels r initialTables rs);
       told = (λ i. entryOf r (e i) ∷ c .told i) ∙ sym (history-more byLevels r initialTables [] rs);
@@ -64,12 +64,12 @@ link a b after h r reply c f o =
 -- one record more of a journal
 record-link : (a b : List ℕ) (h : List Entry) (r : Record) (reply : Reply) → Chain a h → (l lent : List ℕ) (at : ℕ) → readAt l at ≡ Found r
     → length lent ≡ maxRead → reply ≡ replayOf (tablesOf a) l (readAt l at) lent .reply → tablesOf b ≡ replayOf (tablesOf a) l (readAt l at) lent .tables
-    → Chain b (record { request = requestAt l r; reply = reply; buffer = stepOf byLiftedMaps (tablesOf a) (requestAt l r) .buffer } ∷ h)
+    → Chain b (record { request = requestAt l r; reply = reply; buffer = stepOf byKernelStarts (tablesOf a) (requestAt l r) .buffer } ∷ h)
 record-link a b h r reply c l lent at found full e t =
     let q = requestAt l r in
     let reply-is = e ∙ reply-replayed l a lent at (requestsOf h) r (c .tables) (c .fit) found full in
     let tables-are = t ∙ tables-replayed l a lent at (requestsOf h) r (c .tables) (c .fit) found full in
-    let after = stepOf byLiftedMaps (tablesOf a) q .buffer in
+    let after = stepOf byKernelStarts (tablesOf a) q .buffer in
     link a b after h q reply c (read-fits l at r found) (λ i. record { reply = reply-is i; tables = tables-are i; buffer = after })
 
 chain : (a : List ℕ) (h : List Entry) → Execution a h → Chain a h
@@ -78,7 +78,7 @@ chain a h (started e) = record { tables = e; told = refl; fit = tt }
 chain b h (answered {a = a} {after = after} {h = g} {r = r} x f p) = link a b after g r _ (chain a g x) f (p .outcome)
 chain b h (exported {a = a} {after = after} {h = g} {r = r} x f code p) =
     let n = exported-step code a b (r .buffer) after (r .call) (r .text) (r .list) p in
-    link a b after g r _ (chain a g x) f (λ i. record { reply = stepOf byLiftedMaps (tablesOf a) r .reply; tables = n .tables i; buffer = n .buffer i })
+    link a b after g r _ (chain a g x) f (λ i. record { reply = stepOf byKernelStarts (tablesOf a) r .reply; tables = n .tables i; buffer = n .buffer i })
 chain b h (replayed {a = a} {after = after} {h = g} {r = r} {response = response} x l lent at found full p) =
     record-link a b g r (callReply response) (chain a g x) l lent at found full (ap (λ (s : Step). s .reply) (p .outcome)) (ap (λ (s : Step). s .tables) (p .outcome))
 chain b h (replayed-export {a = a} {after = after} {h = g} {r = r} x l lent at code found full p) =

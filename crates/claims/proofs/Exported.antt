@@ -19,7 +19,7 @@ use Rattle.tables.specs.Tables.{State, tablesOf, processAt, processPlaces, proc
 use Rattle.tables.specs.Find.{callerNamed}
 use Rattle.tables.specs.Reply.{Reply, Outcome}
 use Rattle.hierarchy.specs.Walks.{Translation}
-use Rattle.hierarchy.specs.Lifted.{quick}
+use Rattle.hierarchy.specs.KernelStarts.{quick}
 use Rattle.mapping.specs.Calls.{ReadOutcome}
 use Rattle.credentials.specs.declared.own.OwnIds.{OwnIds}
 use Rattle.credentials.specs.declared.own.OwnResult.{OwnResult}

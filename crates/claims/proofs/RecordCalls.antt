@@ -12,7 +12,7 @@ use Rattle.records.specs.declared.MapState.{MapState}
 use Rattle.records.specs.declared.MapState.the-variants.{Unwritten, Written}
 use Rattle.records.specs.Records.{mapIn, linesOf}
 use Rattle.tables.specs.Tables.{State, tablesOf, namespaceAt}
-use Rattle.hierarchy.specs.Lifted.{byLiftedMaps}
+use Rattle.hierarchy.specs.KernelStarts.{byKernelStarts}
 use Rattle.calls.specs.declared.Call.{Call}
 use Rattle.calls.specs.declared.Call.the-variants.{Fork, Clone, Unshare, Setns, WriteMap, WriteSetgroups, ReadMap, ReadSetgroups, SetIds, SetGroups, Capable, Drop, OwnIdsOf, Translate}
 use Rattle.calls.specs.Calls.{Request, Step}
@@ -90,17 +90,17 @@ module _ (l a lent : List ℕ) (at : ℕ) (rs : List Request) (r : Record) (are 
   same : SameAnswer (tablesOf a) l r lent
   same = same-answer (tablesOf a) l (rw are (few-lines rs (bounds rs fit))) lent full r
 
-  document : stepOf byLiftedMaps (tablesOf a) q ≡ stepOf byLevels (run rs) q
-  document = ap (λ (s : State). stepOf byLiftedMaps s q) are ∙ as-document rs fit .step q
+  document : stepOf byKernelStarts (tablesOf a) q ≡ stepOf byLevels (run rs) q
+  document = ap (λ (s : State). stepOf byKernelStarts s q) are ∙ as-document rs fit .step q
 
   here : replayOf (tablesOf a) l (readAt l at) lent ≡ replayOf (tablesOf a) l (Found r) lent
   here = ap (λ (x : Read). replayOf (tablesOf a) l x lent) found
 
   -- its reply and its tables are those of the request
-  pub reply-replayed : replayOf (tablesOf a) l (readAt l at) lent .reply ≡ stepOf byLiftedMaps (tablesOf a) q .reply
+  pub reply-replayed : replayOf (tablesOf a) l (readAt l at) lent .reply ≡ stepOf byKernelStarts (tablesOf a) q .reply
   reply-replayed = ap (λ (s : Step). s .reply) here ∙ same .reply
 
-  pub tables-replayed : replayOf (tablesOf a) l (readAt l at) lent .tables ≡ stepOf byLiftedMaps (tablesOf a) q .tables
+  pub tables-replayed : replayOf (tablesOf a) l (readAt l at) lent .tables ≡ stepOf byKernelStarts (tablesOf a) q .tables
   tables-replayed = ap (λ (s : Step). s .tables) here ∙ same .tables
 
   -- and document 01's

@@ -19,7 +19,7 @@ use Rattle.lifted_map.proofs.Composition.{out-low}
 use Rattle.records.specs.declared.Kind.{Kind}
 use Rattle.tables.specs.Tables.{State, fixedLine, maxLevel}
 use Rattle.hierarchy.specs.Walks.{Translation, heightOf, itself}
-use Rattle.hierarchy.specs.Lifted.{outIn, toKernelBy, toKernel, backIn, fromKernelBy, fromKernel, wholeIn, byLiftedMaps, stepsAbove}
+use Rattle.hierarchy.specs.KernelStarts.{outIn, toKernelBy, toKernel, backIn, fromKernelBy, fromKernel, wholeIn, byKernelStarts, stepsAbove}
 use Rattle.prelude.proofs.Tests.{by-test}
 use Rattle.prelude.proofs.Made.{some-none}
 use Rattle.claims.specs.Translation.{byLevels, outBy, backBy}
@@ -230,8 +230,8 @@ module _ (s : State) (h : List Event) (a : Agreed s h) (d : SoundAt h) where
   whole-agrees k n start count = rw (lines-agree s h a k n) (whole-by-reach (writtenLines k h n) start count (d .good k n))
 
   -- what the code does is what the papers say: out, back and ranges, for every kind, namespace and number
-  pub same-translation : Beside s h → LiftsAt h → byLiftedMaps s ≡ byLevels s
-  unfolding byLiftedMaps
+  pub same-translation : Beside s h → LiftsAt h → byKernelStarts s ≡ byLevels s
+  unfolding byKernelStarts
   same-translation b o =
       (λ i. record {
         out = λ (k : Kind) (n x : ℕ). stands-agrees s h b d o k n x i;

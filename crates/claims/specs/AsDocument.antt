@@ -5,19 +5,19 @@
 use mathlib.Core.Path.{_≡_}
 use mathlib.Core.List.{List, []}
 use Rattle.tables.specs.Tables.{State, initialTables}
-use Rattle.hierarchy.specs.Lifted.{byLiftedMaps}
+use Rattle.hierarchy.specs.KernelStarts.{byKernelStarts}
 use Rattle.calls.specs.Calls.{Request, Step}
 use Rattle.claims.specs.Translation.{byLevels}
 use Rattle.claims.specs.History.{stepOf, runFrom, historyFrom, run, history}
 
 pub record AsDocument (rs : List Request) : Type 0 where
   -- every number of every namespace, of either kind, out and back, and every range
-  pub translation : byLiftedMaps (run rs) ≡ byLevels (run rs)
+  pub translation : byKernelStarts (run rs) ≡ byLevels (run rs)
   -- so every next call's answer, tables and buffer
-  pub step : (r : Request) → stepOf byLiftedMaps (run rs) r ≡ stepOf byLevels (run rs) r
+  pub step : (r : Request) → stepOf byKernelStarts (run rs) r ≡ stepOf byLevels (run rs) r
   -- and the whole run with its history
-  pub tables : runFrom byLiftedMaps initialTables rs ≡ run rs
-  pub told : historyFrom byLiftedMaps initialTables [] rs ≡ history rs
+  pub tables : runFrom byKernelStarts initialTables rs ≡ run rs
+  pub told : historyFrom byKernelStarts initialTables [] rs ≡ history rs
 
 -- ---- of any tables
 -- what stands in them but for what the code keeps beside the maps

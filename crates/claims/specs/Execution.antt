@@ -9,7 +9,7 @@ use lib.ListN.{length, replicate}
 use Rattle.prelude.specs.Parts.{putAt}
 use Rattle.tables.specs.Tables.{tablesOf, initialTables}
 use Rattle.tables.specs.Reply.{Reply, Outcome, isRefused}
-use Rattle.hierarchy.specs.Lifted.{byLiftedMaps, quick}
+use Rattle.hierarchy.specs.KernelStarts.{byKernelStarts, quick}
 use Rattle.process.specs.Calls.{forkOf, cloneOf, unshareOf, setnsOf}
 use Rattle.mapping.specs.Calls.{ReadOutcome, writeMapOf, writeSetgroupsOf, readMapOf, readSetgroupsOf}
 use Rattle.credentials.specs.declared.own.OwnResult.{OwnResult}
@@ -84,13 +84,13 @@ pub data Execution : List ℕ → List Entry → Type 0 where
   started : {a : List ℕ} → tablesOf a ≡ initialTables → Execution a []
   -- a call through the entry point, `calls::answer`, with what it promises. Its IDs have the interface's types
   answered : {a b after : List ℕ} {h : List Entry} {r : Request} {response : Response} → Execution a h → Fits r
-      → CallPromise response a b after (stepOf byLiftedMaps (tablesOf a) r)
+      → CallPromise response a b after (stepOf byKernelStarts (tablesOf a) r)
       → Execution b (record { request = r; reply = callReply response; buffer = after } ∷ h)
   -- a call through an exported function, with what it promises. The number that it answers is that of this reply
   -- (`Numbered`)
   exported : {a b after : List ℕ} {h : List Entry} {r : Request} → Execution a h → Fits r → (code : ℕ)
       → ExportPromise code a b (r .buffer) after (r .call) (r .text) (r .list)
-      → Execution b (record { request = r; reply = stepOf byLiftedMaps (tablesOf a) r .reply; buffer = after } ∷ h)
+      → Execution b (record { request = r; reply = stepOf byKernelStarts (tablesOf a) r .reply; buffer = after } ∷ h)
   -- the call of a record of a journal l, through `replay_step::step`, with what it promises of the buffer lent to it.
   -- The entry has the buffer that the record says, of which the bytes read are the lent one's (`SameAnswer`)
   replayed : {a b after : List ℕ} {h : List Entry} {r : Record} {response : Response} → Execution a h → (l lent : List ℕ) (at : ℕ)
@@ -98,7 +98,7 @@ pub data Execution : List ℕ → List Entry → Type 0 where
       → Execution b (record {
         request = requestAt l r;
         reply = callReply response;
-        buffer = stepOf byLiftedMaps (tablesOf a) (requestAt l r) .buffer;
+        buffer = stepOf byKernelStarts (tablesOf a) (requestAt l r) .buffer;
       } ∷ h)
   -- the same through `oarhatchet_replay`, whose number is that of this reply
   replayed-export : {a b after : List ℕ} {h : List Entry} {r : Record} → Execution a h → (l lent : List ℕ) (at code : ℕ)
@@ -106,7 +106,7 @@ pub data Execution : List ℕ → List Entry → Type 0 where
       → Execution b (record {
         request = requestAt l r;
         reply = stepAt a l at lent .reply;
-        buffer = stepOf byLiftedMaps (tablesOf a) (requestAt l r) .buffer;
+        buffer = stepOf byKernelStarts (tablesOf a) (requestAt l r) .buffer;
       } ∷ h)
 
 -- the calls of an execution, oldest first

@@ -30,7 +30,7 @@ use Rattle.tables.specs.declared.answer.Errno.the-variants.{EPERM, ESRCH, EINVA
 use Rattle.tables.specs.declared.answer.Answer.the-variants.{Refused, Done}
 use Rattle.tables.proofs.Promises.{refuses, answers}
 use Rattle.hierarchy.specs.Walks.{Translation, itself, capableIn}
-use Rattle.hierarchy.specs.Lifted.{toKernel, byLiftedMaps}
+use Rattle.hierarchy.specs.KernelStarts.{toKernel, byKernelStarts}
 use Rattle.hierarchy.specs.Batch.{eachBy, toKernelEach}
 use Rattle.hierarchy.proofs.Batches.{known-kernel}
 use Rattle.credentials.specs.declared.groups.Listed.{Listed}
@@ -54,8 +54,8 @@ module _ (s : State) (n : ℕ) where
 
   module _ (k : ℕ) where
     -- none of them is 'no ID'
-    every-group : (list : List ℕ) → allIds (map kernelOr list ++ replicate k 0) ≡ true → kernelGroups (byLiftedMaps s) n list ≡ some (map kernelOr list)
-    unfolding kernelGroups byLiftedMaps allOf consOf allIds
+    every-group : (list : List ℕ) → allIds (map kernelOr list ++ replicate k 0) ≡ true → kernelGroups (byKernelStarts s) n list ≡ some (map kernelOr list)
+    unfolding kernelGroups byKernelStarts allOf consOf allIds
     every-group [] e = refl
     every-group (x ∷ list) e =
         by-test (eqb (kernelOr x) noId)
@@ -63,8 +63,8 @@ module _ (s : State) (n : ℕ) where
         (λ t. rw (option-is x, t, every-group list (rw t at e)))
 
     -- one is
-    some-group : (list : List ℕ) → allIds (map kernelOr list ++ replicate k 0) ≡ false → kernelGroups (byLiftedMaps s) n list ≡ none
-    unfolding kernelGroups byLiftedMaps allOf consOf allIds
+    some-group : (list : List ℕ) → allIds (map kernelOr list ++ replicate k 0) ≡ false → kernelGroups (byKernelStarts s) n list ≡ none
+    unfolding kernelGroups byKernelStarts allOf consOf allIds
     some-group [] e = absurd (true≢false (sym (zeros-ids k) ∙ e))
     some-group (x ∷ list) e =
         by-test (eqb (kernelOr x) noId)
@@ -87,10 +87,10 @@ module _ (s : State) (n : ℕ) where
     unfolding groupList
     ids-are = sym (tested ∙ rw groups-are)
 
-    pub kernel-listed : t ≡ true → _≡_ {A = Listed} (record { mapped = true; groups = groups }) (listedOf (kernelGroups (byLiftedMaps s) n list))
+    pub kernel-listed : t ≡ true → _≡_ {A = Listed} (record { mapped = true; groups = groups }) (listedOf (kernelGroups (byKernelStarts s) n list))
     kernel-listed e = rw (every-group (maxGroups - length (map kernelOr list)) list (ids-are ∙ e), groups-are)
 
-    pub kernel-unlisted : t ≡ false → _≡_ {A = Listed} (record { mapped = false; groups = noGroups }) (listedOf (kernelGroups (byLiftedMaps s) n list))
+    pub kernel-unlisted : t ≡ false → _≡_ {A = Listed} (record { mapped = false; groups = noGroups }) (listedOf (kernelGroups (byKernelStarts s) n list))
     unfolding groupList
     kernel-unlisted e = sym (ap listedOf (some-group (maxGroups - length (map kernelOr list)) list (ids-are ∙ e)))
 

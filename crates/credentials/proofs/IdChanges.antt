@@ -26,16 +26,16 @@ use Rattle.tables.specs.declared.answer.Errno.the-variants.{EPERM, ESRCH, EINVA
 use Rattle.tables.specs.declared.answer.Answer.the-variants.{Refused, Done}
 use Rattle.tables.proofs.Promises.{refuses, answers}
 use Rattle.hierarchy.specs.Walks.{Translation, capableIn}
-use Rattle.hierarchy.specs.Lifted.{toKernel, byLiftedMaps}
+use Rattle.hierarchy.specs.KernelStarts.{toKernel, byKernelStarts}
 use Rattle.credentials.specs.Calls.{chosen, thenThree, isOneOf, allOneOf, losesAll, losesEffective, withUsers, withGroups, withIds, mayTake, setIdsOf}
 
 -- ---- an ID that is given
 module _ (s : State) (kind : Kind) (n x old : ℕ) where
-  pub chosen-old : x ≡ noId → Id old ≡ chosen (byLiftedMaps s) kind n x old
+  pub chosen-old : x ≡ noId → Id old ≡ chosen (byKernelStarts s) kind n x old
   chosen-old e = rw (eq-eqb x noId e)
 
-  pub chosen-new : (r : Translated) → (x ≡ noId → ⊥) → r ≡ toKernel s kind n x → r ≡ chosen (byLiftedMaps s) kind n x old
-  unfolding byLiftedMaps
+  pub chosen-new : (r : Translated) → (x ≡ noId → ⊥) → r ≡ toKernel s kind n x → r ≡ chosen (byKernelStarts s) kind n x old
+  unfolding byKernelStarts
   chosen-new r e q = rw (ne-eqb x noId e) q
 
 -- ---- one of three
@@ -123,11 +123,11 @@ unfolding withGroups
 groups-made p new = refl
 
 module _ (s : State) (kind : Kind) (p : Process) (new : Ids) (r : Process) where
-  pub ids-user : (zero : Translated) → kind ≡ User → zero ≡ toKernel s User (p .namespace) 0 → r ≡ withUsers zero p new → r ≡ withIds (byLiftedMaps s) kind p new
-  unfolding byLiftedMaps
+  pub ids-user : (zero : Translated) → kind ≡ User → zero ≡ toKernel s User (p .namespace) 0 → r ≡ withUsers zero p new → r ≡ withIds (byKernelStarts s) kind p new
+  unfolding byKernelStarts
   ids-user zero k ez e = rw k (rw ez at e)
 
-  pub ids-group : kind ≡ Group → r ≡ withGroups p new → r ≡ withIds (byLiftedMaps s) kind p new
+  pub ids-group : kind ≡ Group → r ≡ withGroups p new → r ≡ withIds (byKernelStarts s) kind p new
   ids-group k e = rw k e
 
 -- ---- who may

@@ -1,5 +1,4 @@
 pub mod IdChanges
-pub mod Batches
 pub mod GroupLists
 pub mod OwnIds
 pub mod Capability

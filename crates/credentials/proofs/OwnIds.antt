@@ -23,7 +23,7 @@ use Rattle.tables.specs.declared.find.Found.{Found}
 use Rattle.tables.specs.declared.find.Found.the-variants.{At, Nothing}
 use Rattle.tables.specs.declared.answer.Errno.the-variants.{ESRCH}
 use Rattle.hierarchy.specs.Walks.{Translation}
-use Rattle.hierarchy.specs.Lifted.{fromKernelBy, byLiftedMaps}
+use Rattle.hierarchy.specs.KernelStarts.{fromKernelBy, byKernelStarts}
 use Rattle.hierarchy.specs.declared.batch.Known.{Known}
 use Rattle.hierarchy.specs.Batch.{turnedBy, eachBy, fromKernelEach, knownBy}
 use Rattle.hierarchy.proofs.Batches.{Knows, found-at}
@@ -37,14 +37,14 @@ use Rattle.credentials.specs.Calls.{shownAs, seen, seenIds, groupList, s
 
 -- ---- three IDs, each after the one before it, by the lifted map that the tables have
 module _ (s : State) (kind : Kind) (ls : List Line) (b n : ℕ) (lines : ls ≡ liftedAt s kind n .lines) (base : b ≡ liftedAt s kind n .base) where
-  by-own : (x : ℕ) → idOr overflowId (fromKernelBy s kind (record { base = b; lines = ls }) n x) ≡ seen (byLiftedMaps s) kind n x
-  unfolding byLiftedMaps
+  by-own : (x : ℕ) → idOr overflowId (fromKernelBy s kind (record { base = b; lines = ls }) n x) ≡ seen (byKernelStarts s) kind n x
+  unfolding byKernelStarts
   by-own x = ap shownAs (from-own s kind ls b n lines base x _ refl)
 
   pub seen-three : (i : Ids) (r : Translated) (v : ℕ) (e d : Known) → r ≡ fromKernelBy s kind (record { base = b; lines = ls }) n (i .real) → v ≡ idOr overflowId r
       → e ≡ knownBy (turnedBy true s kind (record { base = b; lines = ls }) n) overflowId (record { id = i .real; found = v }) (i .effective)
       → d ≡ knownBy (turnedBy true s kind (record { base = b; lines = ls }) n) overflowId e (i .saved)
-      → record { real = v; effective = e .found; saved = d .found } ≡ seenIds (byLiftedMaps s) kind n i
+      → record { real = v; effective = e .found; saved = d .found } ≡ seenIds (byKernelStarts s) kind n i
   unfolding Knows
   seen-three i r v e d p w q t =
       let f : ℕ → Translated = fromKernelBy s kind (record { base = b; lines = ls }) n in
@@ -58,7 +58,7 @@ module _ (s : State) (n : ℕ) (three : Ids) (g : GroupList) (given found : List
     (seen-all : found ≡ fromKernelEach s Group n overflowId given) where
   -- a group ID as the namespace sees it
   abbrev shown : ℕ → ℕ
-  shown = seen (byLiftedMaps s) Group n
+  shown = seen (byKernelStarts s) Group n
 
   -- the three, and what fills the batch
   abbrev own : List ℕ
@@ -66,7 +66,7 @@ module _ (s : State) (n : ℕ) (three : Ids) (g : GroupList) (given found : List
 
   -- those of the list stand first
   found-is : found ≡ map shown (g .ids) ++ own
-  unfolding byLiftedMaps eachBy ownBatch
+  unfolding byKernelStarts eachBy ownBatch
   found-is = seen-all ∙ rw (read, map-append shown (g .ids) (three .real ∷ three .effective ∷ three .saved ∷ 0 ∷ []))
 
   many : length (map shown (g .ids)) ≡ maxGroups
@@ -88,7 +88,7 @@ module _ (s : State) (n : ℕ) (three : Ids) (g : GroupList) (given found : List
 
   pub groups-seen : seen-list ≡ groupList (take (min (g .count) maxGroups) found)
       → _≡_ {A = Groups} (record { three = record { real = getD found maxGroups 0; effective = getD found (maxGroups + 1) 0; saved = getD found (maxGroups + 2) 0 }; list = seen-list })
-      (record { three = seenIds (byLiftedMaps s) Group n three; list = seenGroups (byLiftedMaps s) n g })
+      (record { three = seenIds (byKernelStarts s) Group n three; list = seenGroups (byKernelStarts s) n g })
   unfolding seenGroups
   groups-seen e = λ i. record {
     three = record { real = own-at 0 i; effective = own-at 1 i; saved = own-at 2 i };

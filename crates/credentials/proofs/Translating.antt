@@ -11,19 +11,19 @@ use Rattle.tables.specs.Reply.{refused, id, unmapped}
 use Rattle.tables.specs.declared.find.Found.{Found}
 use Rattle.tables.specs.declared.find.Found.the-variants.{At, Nothing}
 use Rattle.hierarchy.specs.Walks.{Translation}
-use Rattle.hierarchy.specs.Lifted.{toKernel, fromKernel, byLiftedMaps}
+use Rattle.hierarchy.specs.KernelStarts.{toKernel, fromKernel, byKernelStarts}
 use Rattle.credentials.specs.declared.translate.Way.{Way}
 use Rattle.credentials.specs.declared.translate.Way.the-variants.{Out, Back}
 use Rattle.credentials.specs.Calls.{turned, translateReply}
 
 -- ---- one way or the other
 module _ (s : State) (kind : Kind) (way : Way) (n x : ℕ) (r : Translated) where
-  pub turned-out : way ≡ Out → r ≡ toKernel s kind n x → r ≡ turned (byLiftedMaps s) kind way n x
-  unfolding byLiftedMaps
+  pub turned-out : way ≡ Out → r ≡ toKernel s kind n x → r ≡ turned (byKernelStarts s) kind way n x
+  unfolding byKernelStarts
   turned-out e found = rw (e, found)
 
-  pub turned-back : way ≡ Back → r ≡ fromKernel s kind n x → r ≡ turned (byLiftedMaps s) kind way n x
-  unfolding byLiftedMaps
+  pub turned-back : way ≡ Back → r ≡ fromKernel s kind n x → r ≡ turned (byKernelStarts s) kind way n x
+  unfolding byKernelStarts
   turned-back e found = rw (e, found)
 
 -- ---- the call

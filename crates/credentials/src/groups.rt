@@ -5,14 +5,12 @@ ghost use lib.ListN.{length};
 ghost use Rattle.records.specs.Records.{maxGroups};
 ghost use Rattle.tables.specs.Tables.{tablesOf};
 ghost use Rattle.tables.specs.Reply.{Promise};
-ghost use Rattle.hierarchy.specs.Lifted.{byLiftedMaps, quick};
+ghost use Rattle.hierarchy.specs.KernelStarts.{byKernelStarts, quick};
 ghost use Rattle.credentials.specs.Calls.{withList, kernelGroups, listedOf, setGroupsOf};
-use crate::batching::all_ids;
-use crate::batching::batch_of;
-use crate::batching::group_list;
 use capability::CAP_SETGID;
-use hierarchy::batch::to_kernel_each;
 use hierarchy::capable::capable;
+use hierarchy::translate::to_kernel;
+use idmap::Translated;
 use records::GroupList;
 use records::Kind;
 use records::MAX_GROUPS;
@@ -37,21 +35,26 @@ struct Listed {
 // The kernel IDs of groups, in order, where a list has room for them.
 fn kernel_groups(t: &Tables, namespace: u64, list: &[u32]) -> Listed
     requires { ⌜ length (now list) ≤ maxGroups ⌝ }
-    ensures { λ r. ⌜ r ≡ listedOf (kernelGroups (byLiftedMaps (tablesOf (now (t .entry)))) «namespace» (now (list .entry))) ⌝ }
+    ensures { λ r. ⌜ r ≡ listedOf (kernelGroups (byKernelStarts (tablesOf (now (t .entry)))) «namespace» (now (list .entry))) ⌝ }
 {
-    let kernel = to_kernel_each(t, Kind::Group, namespace, batch_of(list));
-    let groups = group_list(kernel, list.len());
-    let ids = groups.ids;
-    if all_ids(ids) {
-        Listed {
-            mapped: true,
-            groups: groups,
-        }
-    } else {
-        Listed {
-            mapped: false,
-            groups: NO_GROUPS,
-        }
+    let mut ids: [u32; MAX_GROUPS] = [0; MAX_GROUPS];
+    let mut i: usize = 0;
+    while i < list.len() {
+        let Translated::Id(x) = to_kernel(t, Kind::Group, namespace, list[i]) else {
+            return Listed {
+                mapped: false,
+                groups: NO_GROUPS,
+            };
+        };
+        ids[i] = x;
+        i += 1;
+    }
+    Listed {
+        mapped: true,
+        groups: GroupList {
+            count: i as u64,
+            ids: ids,
+        },
     }
 }
 

@@ -4,7 +4,7 @@ ghost use mathlib.Core.Bool.{cond, _||_};
 ghost use Rattle.capability.specs.Sets.{emptySet};
 ghost use Rattle.tables.specs.Tables.{tablesOf};
 ghost use Rattle.tables.specs.Reply.{Promise};
-ghost use Rattle.hierarchy.specs.Lifted.{byLiftedMaps, quick};
+ghost use Rattle.hierarchy.specs.KernelStarts.{byKernelStarts, quick};
 ghost use Rattle.credentials.specs.Calls.{chosen, isOneOf, allOneOf, losesAll, losesEffective, mayTake, withUsers, withGroups, withIds, setIdsOf};
 use capability::CapabilitySet;
 use hierarchy::capable::capable;
@@ -26,7 +26,7 @@ use tables::processes::process_put;
 
 // The kernel ID for an ID that is given: 4,294,967,295 leaves the old one.
 fn choose(t: &Tables, kind: Kind, namespace: u64, id: u32, old: u32) -> Translated
-    ensures { λ r. ⌜ r ≡ chosen (byLiftedMaps (tablesOf (now (t .entry)))) kind «namespace» id old ⌝ }
+    ensures { λ r. ⌜ r ≡ chosen (byKernelStarts (tablesOf (now (t .entry)))) kind «namespace» id old ⌝ }
 {
     if id == NO_ID {
         Translated::Id(old)
@@ -151,7 +151,7 @@ fn with_groups(p: Process, new: Ids) -> Process
 }
 
 fn with_ids(t: &Tables, kind: Kind, p: Process, new: Ids) -> Process
-    ensures { λ r. ⌜ r ≡ withIds (byLiftedMaps (tablesOf (now (t .entry)))) kind p new ⌝ }
+    ensures { λ r. ⌜ r ≡ withIds (byKernelStarts (tablesOf (now (t .entry)))) kind p new ⌝ }
 {
     match kind {
         Kind::User => with_users(to_kernel(t, Kind::User, p.namespace, 0), p, new),

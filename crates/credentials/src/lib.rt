@@ -1,5 +1,4 @@
 // The calls about a process's credentials: ID changes, setgroups, own IDs, the capability question, drop and translate.
-mod batching;
 pub mod capability_calls;
 pub mod groups;
 pub mod ids;

@@ -1,14 +1,11 @@
 // A process's own IDs, as seen in its namespace.
 ghost use mathlib.Core.Path.{_≡_};
+ghost use Prim.Native.Nat.{min};
+ghost use Rattle.records.specs.Records.{maxGroups};
 ghost use Rattle.tables.specs.Tables.{tablesOf};
-ghost use Rattle.hierarchy.specs.Lifted.{byLiftedMaps, quick};
-ghost use Rattle.credentials.specs.Calls.{seenIds, seenGroups, ownIdsOf};
-use crate::batching::group_list;
-use crate::batching::own_batch;
-use hierarchy::batch::Known;
-use hierarchy::batch::from_kernel_each;
-use hierarchy::batch::known_for;
-use hierarchy::translate::from_kernel_by;
+ghost use Rattle.hierarchy.specs.KernelStarts.{byKernelStarts, quick};
+ghost use Rattle.credentials.specs.Calls.{seen, seenIds, seenGroups, ownIdsOf};
+use hierarchy::translate::from_kernel;
 use idmap::OVERFLOW_ID;
 use idmap::lookup::id_or;
 use records::GroupList;
@@ -21,8 +18,6 @@ use tables::Tables;
 use tables::answer::Errno;
 use tables::find::Found;
 use tables::find::find_caller;
-use tables::lifted_maps::lifted_base;
-use tables::lifted_maps::lifted_lines;
 use tables::processes::process_at;
 
 // A process's own IDs, as seen in its namespace.
@@ -51,61 +46,50 @@ pub const NO_OWN_IDS: OwnIds = OwnIds {
     supplementary: NO_GROUPS,
 };
 
-// The three user IDs. One that is the same as the one before it is not looked up again.
-fn seen_users(t: &Tables, namespace: u64, users: Ids) -> Ids
-    ensures { λ r. ⌜ r ≡ seenIds (byLiftedMaps (tablesOf (now (t .entry)))) Kind.User «namespace» users ⌝ }
+// A kernel ID as a namespace sees it.
+fn seen(t: &Tables, kind: Kind, namespace: u64, id: u32) -> u32
+    ensures { λ r. ⌜ r ≡ seen (byKernelStarts (tablesOf (now (t .entry)))) kind «namespace» id ⌝ }
 {
-    let kind = Kind::User;
-    let lines = lifted_lines(t, namespace as usize, kind);
-    let base = lifted_base(t, namespace as usize, kind);
-    let real = Known {
-        id: users.real,
-        found: id_or(
-            from_kernel_by(t, kind, lines, base, namespace, users.real),
-            OVERFLOW_ID,
-        ),
-    };
-    let id = users.effective;
-    let effective = known_for(t, kind, true, lines, base, namespace, id, OVERFLOW_ID, real);
-    let id = users.saved;
-    let saved = known_for(
-        t,
-        kind,
-        true,
-        lines,
-        base,
-        namespace,
-        id,
-        OVERFLOW_ID,
-        effective,
-    );
+    id_or(from_kernel(t, kind, namespace, id), OVERFLOW_ID)
+}
+
+// The three IDs of a kind.
+fn seen_ids(t: &Tables, kind: Kind, namespace: u64, ids: Ids) -> Ids
+    ensures { λ r. ⌜ r ≡ seenIds (byKernelStarts (tablesOf (now (t .entry)))) kind «namespace» ids ⌝ }
+{
     Ids {
-        real: real.found,
-        effective: effective.found,
-        saved: saved.found,
+        real: seen(t, kind, namespace, ids.real),
+        effective: seen(t, kind, namespace, ids.effective),
+        saved: seen(t, kind, namespace, ids.saved),
     }
 }
 
-// A process's own three group IDs and its supplementary groups.
-struct Groups {
-    three: Ids,
-    list: GroupList,
+// As many groups as a list says, and as it has places for.
+fn group_count(list: GroupList) -> usize
+    ensures { λ r. ⌜ r ≡ min (list .count) maxGroups ⌝ }
+{
+    if list.count < MAX_GROUPS as u64 {
+        list.count as usize
+    } else {
+        MAX_GROUPS
+    }
 }
 
-// All group IDs of a process, those of the list in order.
-fn seen_groups(t: &Tables, namespace: u64, three: Ids, list: GroupList) -> Groups
-    ensures { λ r. ⌜ r ≡ record { three = seenIds (byLiftedMaps (tablesOf (now (t .entry)))) Kind.Group «namespace» three; list = seenGroups (byLiftedMaps (tablesOf (now (t .entry)))) «namespace» list } ⌝ }
+// The supplementary groups in order.
+fn seen_groups(t: &Tables, namespace: u64, list: GroupList) -> GroupList
+    ensures { λ r. ⌜ r ≡ seenGroups (byKernelStarts (tablesOf (now (t .entry)))) «namespace» list ⌝ }
 {
     let kernel = list.ids;
-    let given = own_batch(kernel, three);
-    let seen = from_kernel_each(t, Kind::Group, namespace, given, OVERFLOW_ID);
-    Groups {
-        three: Ids {
-            real: seen[MAX_GROUPS],
-            effective: seen[MAX_GROUPS + 1],
-            saved: seen[MAX_GROUPS + 2],
-        },
-        list: group_list(seen, list.count as usize),
+    let end = group_count(list);
+    let mut ids: [u32; MAX_GROUPS] = [0; MAX_GROUPS];
+    let mut i: usize = 0;
+    while i < end {
+        ids[i] = seen(t, Kind::Group, namespace, kernel[i]);
+        i += 1;
+    }
+    GroupList {
+        count: end as u64,
+        ids: ids,
     }
 }
 
@@ -125,14 +109,10 @@ pub fn own_ids(t: &Tables, caller: u64) -> OwnResult
     let users = p.users;
     let groups = p.groups;
     let supplementary = p.supplementary;
-    let seen_users = seen_users(t, p.namespace, users);
-    let seen = seen_groups(t, p.namespace, groups, supplementary);
-    let seen_own = seen.three;
-    let seen_list = seen.list;
     let ids = OwnIds {
-        users: seen_users,
-        groups: seen_own,
-        supplementary: seen_list,
+        users: seen_ids(t, Kind::User, p.namespace, users),
+        groups: seen_ids(t, Kind::Group, p.namespace, groups),
+        supplementary: seen_groups(t, p.namespace, supplementary),
     };
     OwnResult {
         answer: OwnAnswer::Told,

@@ -2,7 +2,7 @@
 ghost use mathlib.Core.Path.{_≡_};
 ghost use Rattle.tables.specs.Tables.{tablesOf};
 ghost use Rattle.tables.specs.Reply.{replyOf};
-ghost use Rattle.hierarchy.specs.Lifted.{byLiftedMaps, quick};
+ghost use Rattle.hierarchy.specs.KernelStarts.{byKernelStarts, quick};
 ghost use Rattle.credentials.specs.Calls.{turned, translateReply};
 use hierarchy::translate::from_kernel;
 use hierarchy::translate::to_kernel;
@@ -23,7 +23,7 @@ pub enum Way {
 
 // An ID translated between the namespace at `place` and the initial one.
 fn turned(t: &Tables, kind: Kind, way: Way, place: u64, id: u32) -> Translated
-    ensures { λ r. ⌜ r ≡ turned (byLiftedMaps (tablesOf (now (t .entry)))) kind way place id ⌝ }
+    ensures { λ r. ⌜ r ≡ turned (byKernelStarts (tablesOf (now (t .entry)))) kind way place id ⌝ }
 {
     match way {
         Way::Out => to_kernel(t, kind, place, id),

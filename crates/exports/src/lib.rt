@@ -8,7 +8,7 @@ ghost use Rattle.prelude.specs.Parts.{putAt};
 ghost use Rattle.records.specs.declared.Kind.the-variants.{User, Group};
 ghost use Rattle.tables.specs.Tables.{tablesWidth, tablesOf, initialTables};
 ghost use Rattle.tables.specs.Reply.{replyOf, numberOf};
-ghost use Rattle.hierarchy.specs.Lifted.{quick};
+ghost use Rattle.hierarchy.specs.KernelStarts.{quick};
 ghost use Rattle.process.specs.Calls.{forkOf, cloneOf, unshareOf, setnsOf};
 ghost use Rattle.mapping.specs.Calls.{writeMapOf, writeSetgroupsOf, readMapOf, readSetgroupsOf};
 ghost use Rattle.credentials.specs.declared.translate.Way.the-variants.{Out, Back};

@@ -1,3 +1,2 @@
 pub mod Walks
-pub mod Lifted
-pub mod Batch
+pub mod KernelStarts

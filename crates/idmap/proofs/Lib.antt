@@ -1,6 +1,5 @@
 pub mod Words
 pub mod Lookups
-pub mod Batches
 pub mod Overlaps
 pub mod Interval
 pub mod Goodness

@@ -3,7 +3,7 @@
 use Prim.Native.Nat.{ℕ, _+_, _-_, _≤_, _<_, _%_, _^_}
 use mathlib.Core.Path.{_≡_, refl, sym, ap, _∙_}
 use mathlib.Core.Bool.{Bool, true, false}
-use mathlib.Core.List.{List, _∷_, map, map-id}
+use mathlib.Core.List.{List, _∷_}
 use native.Mathlib.Nat.{le-of-lt}
 use native.Mathlib.Omega.{arith}
 use lib.ListN.{length, drop}
@@ -13,9 +13,9 @@ use borrow.Author.Tests.{ltb-true}
 use Rattle.idmap.specs.declared.Line.{Line}
 use Rattle.idmap.specs.declared.LookedUp.{LookedUp}
 use Rattle.idmap.specs.declared.Translated.the-variants.{Id}
-use Rattle.idmap.specs.Line.{less, inRange, lineAt, linesIn, lineWords}
-use Rattle.idmap.specs.Lookup.{heldBy, heldByNone, lookupOf, out, reachOf, flip, facingOf, back}
-use Rattle.idmap.proofs.Words.{lines-step, lines-end}
+use Rattle.idmap.specs.Line.{less, inRange, lineWords, lineAt, linesBy}
+use Rattle.idmap.specs.Lookup.{heldBy, heldByNone, lookupOf, out, back}
+use Rattle.idmap.proofs.Words.{lines-step, lines-end, lines-flip}
 
 -- in_range
 pub less-is : (id start d : ℕ) → (d + start) % 2 ^ 32 ≡ id → d < 2 ^ 32 → start < 2 ^ 32 → d ≡ less id start
@@ -23,13 +23,6 @@ less-is id start d e h k = omega arith
 
 pub in-range-is : (id start count d : ℕ) → (d + start) % 2 ^ 32 ≡ id → d < 2 ^ 32 → start < 2 ^ 32 → ltb d count ≡ inRange id start count
 in-range-is id start count d e h k = ap (λ (n : ℕ). ltb n count) (less-is id start d e h k)
-
--- facing
-pub facing-flip : (b : Bool) (l : Line) → b ≡ true → flip l ≡ facingOf b l
-facing-flip b l t = rw t
-
-pub facing-same : (b : Bool) (l : Line) → b ≡ false → l ≡ facingOf b l
-facing-same b l t = rw t
 
 -- held
 module _ (l : Line) (id d : ℕ) (e : (d + l .inside) % 2 ^ 32 ≡ id) (h : d < 2 ^ 32) (k : l .inside < 2 ^ 32) where
@@ -40,53 +33,47 @@ module _ (l : Line) (id d : ℕ) (e : (d + l .inside) % 2 ^ 32 ≡ id) (h : d < 
   held-is p m = rw (m, less-is id (l .inside) d e h k)
 
 -- lookup: what the lines from place i on answer
-pub lookupFrom : Bool → List ℕ → ℕ → ℕ → LookedUp
-lookupFrom b ws i id = lookupOf (map (facingOf b) (linesIn (drop i ws))) id
+pub lookupFrom : ℕ → ℕ → List ℕ → ℕ → ℕ → LookedUp
+lookupFrom from to ws i id = lookupOf (linesBy from to (drop i ws)) id
 
-module _ (b : Bool) (ws : List ℕ) (i id : ℕ) where
-  pub lookup-starts : lookupFrom b ws 0 id ≡ lookupOf (map (facingOf b) (linesIn ws)) id
+module _ (from to : ℕ) (ws : List ℕ) (i id : ℕ) where
+  pub lookup-starts : lookupFrom from to ws 0 id ≡ lookupOf (linesBy from to ws) id
   unfolding lookupFrom
   lookup-starts = refl
 
-  lookup-step : lineWords ≤ length ws - i → lookupFrom b ws i id ≡ lookupOf (facingOf b (lineAt ws i) ∷ map (facingOf b) (linesIn (drop (i + lineWords) ws))) id
-  unfolding lookupFrom
-  lookup-step h = rw (lines-step ws i h)
-
-  module _ (inv : lookupFrom b ws 0 id ≡ lookupFrom b ws i id) where
-    pub lookup-end : length ws - i < lineWords → heldByNone ≡ lookupOf (map (facingOf b) (linesIn ws)) id
+  module _ (inv : lookupFrom from to ws 0 id ≡ lookupFrom from to ws i id) where
+    pub lookup-end : length ws - i < lineWords → heldByNone ≡ lookupOf (linesBy from to ws) id
     unfolding lookupFrom lookupOf
-    lookup-end h = sym (inv ∙ rw (lines-end ws i h))
+    lookup-end h = sym (inv ∙ rw (lines-end from to ws i h))
 
-    module _ (more : lineWords ≤ length ws - i) (w l : Line) (read : w ≡ lineAt ws i) (at : l ≡ facingOf b w) (t : Bool) (tested : t ≡ inRange id (l .inside) (l .count)) where
-      pub lookup-hit : (r : LookedUp) → t ≡ true → r ≡ heldBy l id → r ≡ lookupOf (map (facingOf b) (linesIn ws)) id
-      unfolding lookupFrom lookupOf
-      lookup-hit r y m = m ∙ sym (inv ∙ lookup-step more ∙ rw (← read, ← at, ← tested, y))
+    module _ (f : from < lineWords) (t : to < lineWords) (more : lineWords ≤ length ws - i) (l : Line) (read : l ≡ lineAt from to ws i) (b : Bool) (tested : b ≡ inRange id (l .inside) (l .count)) where
+      lookup-step : lookupFrom from to ws i id ≡ lookupOf (l ∷ linesBy from to (drop (i + lineWords) ws)) id
+      unfolding lookupFrom
+      lookup-step = rw (lines-step from to ws i f t more, read)
 
-      pub lookup-miss : t ≡ false → lookupFrom b ws 0 id ≡ lookupFrom b ws (i + lineWords) id
+      pub lookup-hit : (r : LookedUp) → b ≡ true → r ≡ heldBy l id → r ≡ lookupOf (linesBy from to ws) id
       unfolding lookupFrom lookupOf
-      lookup-miss f = inv ∙ lookup-step more ∙ rw (← read, ← at, ← tested, f)
+      lookup-hit r y m = m ∙ sym (inv ∙ lookup-step ∙ rw (← tested, y))
+
+      pub lookup-miss : b ≡ false → lookupFrom from to ws 0 id ≡ lookupFrom from to ws (i + lineWords) id
+      unfolding lookupFrom lookupOf
+      lookup-miss n = inv ∙ lookup-step ∙ rw (← tested, n)
 
 pub held-here : (id start count : ℕ) (t : Bool) → t ≡ inRange id start count → t ≡ true → inRange id start count ≡ true
 held-here id start count t e y = sym e ∙ y
 
--- lookup_out, lookup_back
-module _ (ls : List Line) (id : ℕ) (r : LookedUp) where
-  pub lookup-forth : r ≡ lookupOf (map (facingOf false) ls) id → r .translated ≡ out ls id
+-- lookup_kernel, lookup_inside
+module _ (from to : ℕ) (ws : List ℕ) (id : ℕ) (r : LookedUp) where
+  pub translated-out : r ≡ lookupOf (linesBy from to ws) id → r .translated ≡ out (linesBy from to ws) id
   unfolding out
-  lookup-forth e = ap (λ (a : LookedUp). a .translated) (rw map-id at e)
+  translated-out e = ap (λ (a : LookedUp). a .translated) e
 
-  pub lookup-back : r ≡ lookupOf (map (facingOf true) ls) id → r .translated ≡ back ls id
+  pub translated-back : r ≡ lookupOf (linesBy to from ws) id → r .translated ≡ back (linesBy from to ws) id
   unfolding out
-  lookup-back e = ap (λ (a : LookedUp). a .translated) e
-
-  pub reach-forth : r ≡ lookupOf (map (facingOf false) ls) id → r .reach ≡ reachOf ls id
-  unfolding reachOf
-  reach-forth e = ap (λ (a : LookedUp). a .reach) (rw map-id at e)
+  translated-back e = ap (λ (a : LookedUp). a .translated) (rw (lines-flip from to ws) at e)
 
 pub ruleset lookups = (
   in-range-is,
-  facing-flip,
-  facing-same,
   held-left,
   held-is,
   lookup-starts,
@@ -94,7 +81,7 @@ pub ruleset lookups = (
   lookup-hit,
   lookup-miss,
   held-here,
-  lookup-forth,
-  lookup-back,
+  translated-out,
+  translated-back,
   needs,
 )

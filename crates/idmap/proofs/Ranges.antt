@@ -1,8 +1,8 @@
 -- A range that lies whole in one line: of a good map a lookup's count decides it, and each single ID of the range has a
 -- line. Assumes nothing.
-use mathlib.Core.Path.{_≡_, sym, _∙_}
+use mathlib.Core.Path.{_≡_, sym, ap, _∙_}
 use mathlib.Core.Bool.{Bool, true, false, _&&_, true≢false}
-use mathlib.Core.List.{List, [], _∷_, map}
+use mathlib.Core.List.{List, [], _∷_}
 use Prim.Native.Nat.{ℕ, zero, suc, _+_, _-_, _%_, _<_, _^_}
 use native.Mathlib.Omega.{arith}
 use lib.Dec.{leb, ltb}
@@ -12,12 +12,11 @@ use borrow.Author.Tests.{ltb-true, lt-ltb, leb-true, le-leb}
 use Rattle.idmap.specs.declared.Line.{Line}
 use Rattle.idmap.specs.declared.LookedUp.{LookedUp}
 use Rattle.idmap.specs.Line.{less, inRange, noLine}
-use Rattle.idmap.specs.Lookup.{lookupOf, reachOf, facingOf}
+use Rattle.idmap.specs.Lookup.{lookupOf, reachOf}
 use Rattle.idmap.specs.Good.{goodOf, Within}
 use Rattle.idmap.specs.Ranges.{has, oneHas, liesWhole, HasLine, wholeByReach}
 use Rattle.prelude.proofs.Tests.{by-test, test-same, both, and-i}
 use Rattle.idmap.proofs.Goodness.{bounded-of}
-use Rattle.idmap.proofs.Lookups.{reach-forth}
 use Rattle.idmap.proofs.Reach.{reach-to-end, reach-has-line}
 
 -- ---- one line has both IDs
@@ -89,12 +88,17 @@ module _ (ls : List Line) (start count : ℕ) (g : goodOf ls ≡ true) where
 last-past : (start d last : ℕ) → start < 2 ^ 32 → d < 2 ^ 32 → last ≡ (start + d) % 2 ^ 32 → less last start ≡ d
 last-past start d last h k e = omega arith
 
+-- the count that a lookup answers
+reach-is : (ls : List Line) (x : ℕ) (f : LookedUp) → f ≡ lookupOf ls x → f .reach ≡ reachOf ls x
+unfolding reachOf
+reach-is ls x f e = ap (λ (r : LookedUp). r .reach) e
+
 -- it is in the reach of the first one's line
 pub whole-is : (ls : List Line) (start count d last : ℕ) (f : LookedUp) (r : Bool) → start < 2 ^ 32 → (d + 1) % 2 ^ 32 ≡ count → d < 2 ^ 32
-    → last ≡ (start + d) % 2 ^ 32 → f ≡ lookupOf (map (facingOf false) ls) start → f .reach < 2 ^ 32 → r ≡ inRange last start (f .reach) → r ≡ wholeByReach ls start count
+    → last ≡ (start + d) % 2 ^ 32 → f ≡ lookupOf ls start → f .reach < 2 ^ 32 → r ≡ inRange last start (f .reach) → r ≡ wholeByReach ls start count
 unfolding wholeByReach
 whole-is ls start count d last f r small e h past read top tested =
-    tested ∙ rw (last-past start d last small h past, lt-ltb start (2 ^ 32) small, ← reach-forth ls start f read)
+    tested ∙ rw (last-past start d last small h past, lt-ltb start (2 ^ 32) small, ← reach-is ls start f read)
     (test-same (ltb d (f .reach)) (ltb 0 count && leb count (f .reach))
     (λ t. let q = ltb-true d (f .reach) t in and-i _ _ (lt-ltb 0 count (omega arith)) (le-leb count (f .reach) (omega arith)))
     (λ t.

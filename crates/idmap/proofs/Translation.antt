@@ -3,11 +3,11 @@
 use mathlib.Core.Path.{_≡_, refl, sym, ap, _∙_}
 use mathlib.Core.Bool.{true, false}
 use mathlib.Core.List.{List, [], _∷_, map}
-use Prim.Native.Nat.{ℕ, _+_, _-_, _<_, _^_}
+use Prim.Native.Nat.{ℕ, _+_, _-_, _<_, _%_, _^_}
 use native.Mathlib.Omega.{arith}
 use Rattle.idmap.specs.declared.Line.{Line}
 use Rattle.idmap.specs.declared.Translated.the-variants.{Id, Unmapped}
-use Rattle.idmap.specs.Line.{inRange}
+use Rattle.idmap.specs.Line.{less, inRange}
 use Rattle.idmap.specs.Lookup.{movedBy, out, flip, back}
 use Rattle.idmap.specs.Good.{noId, allApart, goodOf, Within, Bounded}
 use Rattle.prelude.proofs.Tests.{by-test}
@@ -119,3 +119,12 @@ no-id-out (l ∷ ls) s =
 
 pub no-id-back : (ls : List Line) → goodOf ls ≡ true → back ls noId ≡ Unmapped
 no-id-back ls s = no-id-out (map flip ls) (flip-good ls s)
+
+-- ---- on any lines: a lookup counts the low 32 bits of an ID
+less-low : (x a : ℕ) → less (x % 2 ^ 32) a ≡ less x a
+less-low x a = omega arith
+
+pub out-low : (ls : List Line) (x : ℕ) → out ls (x % 2 ^ 32) ≡ out ls x
+unfolding out
+out-low [] x = refl
+out-low (l ∷ ls) x = rw (less-low x (l .inside), out-low ls x)

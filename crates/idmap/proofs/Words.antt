@@ -1,33 +1,53 @@
--- Lines kept as words, three to a line: what a loop over them has left, and that the words of lines hold those lines.
--- Assumes nothing.
-use Prim.Native.Nat.{ℕ, suc, _+_, _-_, _≤_, _<_, _^_}
-use mathlib.Core.Path.{_≡_, refl}
-use mathlib.Core.List.{List, [], _∷_}
-use native.Mathlib.Nat.{mod-eq-of-lt}
-use native.Mathlib.Numerals.{add-one, add-two, add-three}
+-- Lines kept as words, four to a line: what a loop over them has left, and that the lines from one column to another are
+-- those from the second to the first with their sides exchanged. Assumes nothing.
+use Prim.Native.Nat.{ℕ, zero, suc, _+_, _-_, _≤_, _<_, _%_, _^_}
+use mathlib.Core.Path.{_≡_, refl, ap}
+use mathlib.Core.List.{List, [], _∷_, map}
 use native.Mathlib.Omega.{arith}
-use lib.ListN.{length, drop, length-drop}
+use lib.ListN.{length, getD, drop, length-drop}
 use lib.Seq.{drop-cons}
 use Rattle.idmap.specs.declared.Line.{Line}
-use Rattle.idmap.specs.Line.{lineWords, lineAt, linesIn, wordsOf}
+use Rattle.idmap.specs.Line.{lineWords, countColumn, lineOf, lineAt, linesBy}
+use Rattle.idmap.specs.Lookup.{flip}
 
-module _ (ws : List ℕ) (i : ℕ) where
+module _ (from to : ℕ) (ws : List ℕ) (i : ℕ) where
   -- the line at place i, and those after it
-  pub lines-step : lineWords ≤ length ws - i → linesIn (drop i ws) ≡ lineAt ws i ∷ linesIn (drop (i + lineWords) ws)
-  unfolding linesIn
-  lines-step h =
-      rw (drop-cons ws i 0 (omega arith), drop-cons ws (suc i) 0 (omega arith), drop-cons ws (suc (suc i)) 0 (omega arith), add-one i, add-two i, add-three i)
+  pub lines-step : from < lineWords → to < lineWords → lineWords ≤ length ws - i → linesBy from to (drop i ws) ≡ lineAt from to ws i ∷ linesBy from to (drop (i + lineWords) ws)
+  unfolding linesBy
+  lines-step f t h =
+      rw (drop-cons ws i 0 (omega arith), drop-cons ws (suc i) 0 (omega arith), drop-cons ws (suc (suc i)) 0 (omega arith), drop-cons ws (suc (suc (suc i))) 0 (omega arith))
+      (λ j. record { inside = word from f j % 2 ^ 32; parent = word to t j % 2 ^ 32; count = word countColumn (omega arith) j % 2 ^ 32 } ∷ linesBy from to (drop (past j) ws))
+    where
+      past : suc (suc (suc (suc i))) ≡ i + lineWords
+      past = omega arith
+
+      word : (c : ℕ) → c < lineWords → getD (getD ws i 0 ∷ getD ws (suc i) 0 ∷ getD ws (suc (suc i)) 0 ∷ getD ws (suc (suc (suc i))) 0 ∷ []) c 0 ≡ getD ws (i + c) 0
+      word zero h = ap (λ (k : ℕ). getD ws k 0) (omega arith)
+      word (suc zero) h = ap (λ (k : ℕ). getD ws k 0) (omega arith)
+      word (suc (suc zero)) h = ap (λ (k : ℕ). getD ws k 0) (omega arith)
+      word (suc (suc (suc zero))) h = ap (λ (k : ℕ). getD ws k 0) (omega arith)
+      word (suc (suc (suc (suc c)))) h = absurd (omega arith)
 
   -- too few words are left for a line
-  short : (l : List ℕ) → length l < lineWords → linesIn l ≡ []
-  unfolding linesIn
+  short : (l : List ℕ) → length l < lineWords → linesBy from to l ≡ []
+  unfolding linesBy
   short [] h = refl
   short (a ∷ []) h = refl
   short (a ∷ b ∷ []) h = refl
-  short (a ∷ b ∷ c ∷ l) h = absurd (omega arith)
+  short (a ∷ b ∷ c ∷ []) h = refl
+  short (a ∷ b ∷ c ∷ d ∷ l) h = absurd (omega arith)
 
-  pub lines-end : length ws - i < lineWords → linesIn (drop i ws) ≡ []
+  pub lines-end : length ws - i < lineWords → linesBy from to (drop i ws) ≡ []
   lines-end h = short (drop i ws) (simp length-drop h)
+
+-- the other way round
+pub lines-flip : (from to : ℕ) (ws : List ℕ) → linesBy to from ws ≡ map flip (linesBy from to ws)
+unfolding linesBy
+lines-flip from to [] = refl
+lines-flip from to (a ∷ []) = refl
+lines-flip from to (a ∷ b ∷ []) = refl
+lines-flip from to (a ∷ b ∷ c ∷ []) = refl
+lines-flip from to (a ∷ b ∷ c ∷ d ∷ ws) = ap (λ (ls : List Line). lineOf to from (a ∷ b ∷ c ∷ d ∷ []) ∷ ls) (lines-flip from to ws)
 
 -- the numbers of a line have 32 bits
 abbrev pub Narrow : Line → Type 0
@@ -36,10 +56,3 @@ Narrow l = (l .inside < 2 ^ 32) × (l .parent < 2 ^ 32) × (l .count < 2 ^ 32)
 abbrev pub AllNarrow : List Line → Type 0
 AllNarrow [] = Unit {0}
 AllNarrow (l ∷ ls) = Narrow l × AllNarrow ls
-
--- the words of lines hold those lines
-pub lines-words : (ls : List Line) → AllNarrow ls → linesIn (wordsOf ls) ≡ ls
-unfolding linesIn wordsOf
-lines-words [] n = refl
-lines-words (l ∷ ls) n =
-    rw (mod-eq-of-lt (n .0 .0), mod-eq-of-lt (n .0 .1), mod-eq-of-lt (n .0 .2), lines-words ls (n .1))

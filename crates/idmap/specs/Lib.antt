@@ -1,6 +1,5 @@
 pub mod Line
 pub mod Lookup
-pub mod Batch
 pub mod Good
 pub mod Ranges
 pub mod Text

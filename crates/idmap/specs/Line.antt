@@ -22,26 +22,47 @@ inRange id start count = ltb (less id start) count
 abbrev pub noLine : Line
 noLine = record { inside = 0; parent = 0; count = 0 }
 
--- the words that a line is kept in
+-- the words that a line is kept in: where its inside starts, where its parent side starts, how many IDs it has, and the
+-- kernel ID (document 01: station-wide ID) where its parent side starts
 abbrev pub lineWords : ℕ
-lineWords = 3
+lineWords = 4
 
--- the line that three words hold, each in its low 32 bits
-abbrev pub lineOfWords : ℕ → ℕ → ℕ → Line
-lineOfWords a b c = record { inside = a % 2 ^ 32; parent = b % 2 ^ 32; count = c % 2 ^ 32 }
+-- which word is which
+abbrev pub insideColumn : ℕ
+insideColumn = 0
 
--- the line whose words stand from place k on
-abbrev pub lineAt : List ℕ → ℕ → Line
-lineAt ws k = lineOfWords (getD ws k 0) (getD ws (k + 1) 0) (getD ws (k + 2) 0)
+abbrev pub parentColumn : ℕ
+parentColumn = 1
 
--- the lines that words hold, three words to a line
-unfoldable pub linesIn : List ℕ → List Line
-linesIn [] = []
-linesIn (a ∷ []) = []
-linesIn (a ∷ b ∷ []) = []
-linesIn (a ∷ b ∷ c ∷ ws) = lineOfWords a b c ∷ linesIn ws
+abbrev pub countColumn : ℕ
+countColumn = 2
 
--- the words of lines
-unfoldable pub wordsOf : List Line → List ℕ
-wordsOf [] = []
-wordsOf (l ∷ ls) = l .inside ∷ l .parent ∷ l .count ∷ wordsOf ls
+abbrev pub kernelColumn : ℕ
+kernelColumn = 3
+
+-- the line from one column to another in a row of words, each number in its low 32 bits; and the same from place k on
+abbrev pub lineOf : ℕ → ℕ → List ℕ → Line
+lineOf from to row = record { inside = getD row from 0 % 2 ^ 32; parent = getD row to 0 % 2 ^ 32; count = getD row countColumn 0 % 2 ^ 32 }
+
+abbrev pub lineAt : ℕ → ℕ → List ℕ → ℕ → Line
+lineAt from to ws k = record {
+  inside = getD ws (k + from) 0 % 2 ^ 32;
+  parent = getD ws (k + to) 0 % 2 ^ 32;
+  count = getD ws (k + countColumn) 0 % 2 ^ 32;
+}
+
+-- the lines from one column to another that words hold, four words to a line
+unfoldable pub linesBy : ℕ → ℕ → List ℕ → List Line
+linesBy from to [] = []
+linesBy from to (a ∷ []) = []
+linesBy from to (a ∷ b ∷ []) = []
+linesBy from to (a ∷ b ∷ c ∷ []) = []
+linesBy from to (a ∷ b ∷ c ∷ d ∷ ws) = lineOf from to (a ∷ b ∷ c ∷ d ∷ []) ∷ linesBy from to ws
+
+-- the lines as they were written
+abbrev pub linesIn : List ℕ → List Line
+linesIn ws = linesBy insideColumn parentColumn ws
+
+-- the same lines with the kernel IDs on the parent side
+abbrev pub kernelLinesIn : List ℕ → List Line
+kernelLinesIn ws = linesBy insideColumn kernelColumn ws

@@ -1,7 +1,7 @@
 -- What the lines of one map make of an ID. Assumes nothing.
 use Prim.Native.Nat.{ℕ, _+_, _-_, _<_}
 use mathlib.Core.Path.{_≡_}
-use mathlib.Core.Bool.{Bool, true, false, cond}
+use mathlib.Core.Bool.{Bool, cond}
 use mathlib.Core.List.{List, [], _∷_, map}
 use mathlib.Core.Logic.{_↔_}
 use lib.ListN.{length, getD}
@@ -64,13 +64,9 @@ overflowId = 65534
 abbrev pub orNoId : Translated → ℕ
 orNoId r = idOr noId r
 
--- a line with its two sides exchanged, and the same where a flag asks for it
+-- a line with its two sides exchanged
 abbrev pub flip : Line → Line
 flip l = record { inside = l .parent; parent = l .inside; count = l .count }
-
-abbrev pub facingOf : Bool → Line → Line
-facingOf true l = flip l
-facingOf false l = l
 
 -- document 01: coming back. It is going out over the lines with their sides exchanged
 abbrev pub back : List Line → ℕ → Translated

@@ -1,6 +1,5 @@
 // ID maps: their lines, the lookups through them, the tests of a map that is to be written, and the text of a map.
 // User and group maps use the same code. Nothing here knows a table, a process or a namespace.
-pub mod batch;
 pub mod lookup;
 pub mod overlap;
 pub mod range;
@@ -10,8 +9,17 @@ pub mod text;
 // The most lines that a map has.
 pub const MAX_LINES: usize = 5;
 
-// The words that a line is kept in.
-pub const LINE_WORDS: usize = 3;
+// The words that a line is kept in: where its inside starts, where its parent side starts, how many IDs it has, and the
+// kernel ID where its parent side starts.
+pub const LINE_WORDS: usize = 4;
+
+pub const INSIDE: usize = 0;
+
+pub const PARENT: usize = INSIDE + 1;
+
+pub const COUNT: usize = PARENT + 1;
+
+pub const KERNEL: usize = COUNT + 1;
 
 // The most bytes that the text of a map has.
 pub const MAX_TEXT_BYTES: usize = 4095;

@@ -1,14 +1,17 @@
-// Lookups through the lines of one map, which stand in lent words, three to a line.
+// Lookups through the lines of one map, which stand in lent words, four to a line.
 ghost use mathlib.Core.Path.{_≡_};
 ghost use mathlib.Core.Bool.{true};
-ghost use mathlib.Core.List.{map};
 ghost use Prim.Native.Nat.{_+_, _<_};
 ghost use lib.ListN.{length};
-ghost use Rattle.idmap.specs.Line.{inRange, lineAt, linesIn};
-ghost use Rattle.idmap.specs.Lookup.{facingOf, heldBy, lookupOf, out, back, idOr};
+ghost use Rattle.idmap.specs.Line.{inRange, lineWords, lineAt, linesBy, linesIn, kernelLinesIn};
+ghost use Rattle.idmap.specs.Lookup.{heldBy, lookupOf, out, back, idOr};
+use crate::COUNT;
+use crate::INSIDE;
+use crate::KERNEL;
 use crate::LINE_WORDS;
 use crate::Line;
 use crate::LookedUp;
+use crate::PARENT;
 use crate::TWO_TO_32;
 use crate::Translated;
 
@@ -19,30 +22,15 @@ pub fn in_range(id: u32, start: u32, count: u32) -> bool
     std::num::wrapping_sub_u32(id, start) < count
 }
 
-// The line whose three words stand from place `at` on.
-pub(crate) fn line_at(words: &[u64], at: usize) -> Line
-    requires { ⌜ at + 2 < length (now words) ⌝ }
-    ensures { λ r. ⌜ r ≡ lineAt (now (words .entry)) at ⌝ }
+// The line from one column to another whose words stand from place `at` on.
+fn line_at(words: &[u64], at: usize, from: usize, to: usize) -> Line
+    requires { ⌜ (at + 3 < length (now words)) × (from < lineWords) × (to < lineWords) ⌝ }
+    ensures { λ r. ⌜ r ≡ lineAt from to (now (words .entry)) at ⌝ }
 {
     Line {
-        inside: (words[at] % TWO_TO_32) as u32,
-        parent: (words[at + 1] % TWO_TO_32) as u32,
-        count: (words[at + 2] % TWO_TO_32) as u32,
-    }
-}
-
-// The line itself, or with its two sides exchanged.
-pub(crate) fn facing(l: Line, backward: bool) -> Line
-    ensures { λ r. ⌜ r ≡ facingOf backward l ⌝ }
-{
-    if backward {
-        Line {
-            inside: l.parent,
-            parent: l.inside,
-            count: l.count,
-        }
-    } else {
-        l
+        inside: (words[at + from] % TWO_TO_32) as u32,
+        parent: (words[at + to] % TWO_TO_32) as u32,
+        count: (words[at + COUNT] % TWO_TO_32) as u32,
     }
 }
 
@@ -58,15 +46,15 @@ fn held(l: Line, id: u32) -> LookedUp
     }
 }
 
-// What the first line that holds `id` answers, read out of the namespace or back into it: the ID on its other side, and
-// how many IDs, from this one to the end of the line, translate by the same offset. Where no line holds `id`, it is
-// unmapped, and there are none.
-pub fn lookup(words: &[u64], id: u32, backward: bool) -> LookedUp
-    ensures { λ r. ⌜ r ≡ lookupOf (map (facingOf backward) (linesIn (now (words .entry)))) id ⌝ }
+// What the first line that holds `id` in one column answers: the ID in the other, and how many IDs, from this one to the
+// end of the line, translate by the same offset. Where no line holds `id`, it is unmapped, and there are none.
+fn lookup(words: &[u64], id: u32, from: usize, to: usize) -> LookedUp
+    requires { ⌜ (from < lineWords) × (to < lineWords) ⌝ }
+    ensures { λ r. ⌜ r ≡ lookupOf (linesBy from to (now (words .entry))) id ⌝ }
 {
     let mut i: usize = 0;
     while LINE_WORDS <= words.len() - i {
-        let l = facing(line_at(words, i), backward);
+        let l = line_at(words, i, from, to);
         if in_range(id, l.inside, l.count) {
             return held(l, id);
         }
@@ -78,19 +66,26 @@ pub fn lookup(words: &[u64], id: u32, backward: bool) -> LookedUp
     }
 }
 
-// The parent's ID for an ID inside. Linux: map_id_down.
-pub fn lookup_out(words: &[u64], id: u32) -> Translated
-    ensures { λ r. ⌜ r ≡ out (linesIn (now (words .entry))) id ⌝ }
+// The parent's ID for an ID inside, and how far this holds.
+pub fn lookup_parent(words: &[u64], id: u32) -> LookedUp
+    ensures { λ r. ⌜ r ≡ lookupOf (linesIn (now (words .entry))) id ⌝ }
 {
-    let found = lookup(words, id, false);
+    lookup(words, id, INSIDE, PARENT)
+}
+
+// The kernel ID for an ID inside, by the kernel starts of the lines. Linux: map_id_down.
+pub fn lookup_kernel(words: &[u64], id: u32) -> Translated
+    ensures { λ r. ⌜ r ≡ out (kernelLinesIn (now (words .entry))) id ⌝ }
+{
+    let found = lookup(words, id, INSIDE, KERNEL);
     found.translated
 }
 
-// The ID inside for an ID of the parent. Linux: map_id_up.
-pub fn lookup_back(words: &[u64], id: u32) -> Translated
-    ensures { λ r. ⌜ r ≡ back (linesIn (now (words .entry))) id ⌝ }
+// The ID inside for a kernel ID, by the kernel starts of the lines. Linux: map_id_up.
+pub fn lookup_inside(words: &[u64], id: u32) -> Translated
+    ensures { λ r. ⌜ r ≡ back (kernelLinesIn (now (words .entry))) id ⌝ }
 {
-    let found = lookup(words, id, true);
+    let found = lookup(words, id, KERNEL, INSIDE);
     found.translated
 }
 

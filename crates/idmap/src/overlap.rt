@@ -10,13 +10,13 @@ use crate::NO_ID;
 // The most that a start and a count may add up to.
 const MOST_SUM: u64 = NO_ID as u64;
 
-pub fn least(a: u64, b: u64) -> u64
+fn least(a: u64, b: u64) -> u64
     ensures { λ r. ⌜ r ≡ min a b ⌝ }
 {
     if a < b { a } else { b }
 }
 
-pub fn most(a: u64, b: u64) -> u64
+fn most(a: u64, b: u64) -> u64
     ensures { λ r. ⌜ r ≡ max a b ⌝ }
 {
     if a < b { b } else { a }

@@ -38,7 +38,7 @@ use Rattle.tables.specs.Tables.{State, processAt, namespaceAt}
 use Rattle.tables.specs.Find.{callerNamed, processNamed}
 use Rattle.tables.specs.Reply.{refused, bytes}
 use Rattle.hierarchy.specs.Walks.{Translation}
-use Rattle.hierarchy.specs.Lifted.{toKernel, fromKernel, byLiftedMaps}
+use Rattle.hierarchy.specs.KernelStarts.{toKernel, fromKernel, byKernelStarts}
 use Rattle.mapping.specs.Calls.{ReadOutcome, readText, viewOf, shownLine, lineCount, mapTextOf, readMapOf}
 use Rattle.mapping.specs.Calls.{denyText, allowText, settingText, readSetgroupsOf}
 
@@ -56,12 +56,12 @@ module _ (s : State) (r : Process) (n : ℕ) where
 module _ (s : State) (kind : Kind) (n v : ℕ) (l : Line) (t : Namespace) (read : t ≡ namespaceAt s n) (a : Translated)
     (start : a ≡ toKernel s kind (t .parent) (l .parent)) where
   pub shown-id : (x y : ℕ) (b : Translated) → a ≡ Id x → b ≡ fromKernel s kind v x → y ≡ orNoId b
-      → _≡_ {A = Line} (record { inside = l .inside; parent = y; count = l .count }) (shownLine (byLiftedMaps s) s kind n v l)
-  unfolding shownLine byLiftedMaps
+      → _≡_ {A = Line} (record { inside = l .inside; parent = y; count = l .count }) (shownLine (byKernelStarts s) s kind n v l)
+  unfolding shownLine byKernelStarts
   shown-id x y b e f g = rw (g, f, ← read, ← start, e)
 
-  pub shown-none : a ≡ Unmapped → _≡_ {A = Line} (record { inside = l .inside; parent = noId; count = l .count }) (shownLine (byLiftedMaps s) s kind n v l)
-  unfolding shownLine byLiftedMaps
+  pub shown-none : a ≡ Unmapped → _≡_ {A = Line} (record { inside = l .inside; parent = noId; count = l .count }) (shownLine (byKernelStarts s) s kind n v l)
+  unfolding shownLine byKernelStarts
   shown-none e = rw (← read, ← start, e)
 
 -- ---- line_count

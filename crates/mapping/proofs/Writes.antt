@@ -40,7 +40,7 @@ use Rattle.tables.specs.Find.{callerNamed, processNamed}
 use Rattle.tables.specs.Reply.{Outcome, Promise}
 use Rattle.tables.proofs.Promises.{refuses, answers}
 use Rattle.hierarchy.specs.Walks.{Translation, capableIn}
-use Rattle.hierarchy.specs.Lifted.{toKernel, wholeIn, byLiftedMaps}
+use Rattle.hierarchy.specs.KernelStarts.{toKernel, wholeIn, byKernelStarts}
 use Rattle.mapping.specs.Calls.{isNear, isId, mayByKind, singleLine, mayMap, allWhole, withMap, writtenMap, mappedTables, writeLinesTo, writeMapTo, writeMapOf}
 
 -- ---- near
@@ -74,28 +74,28 @@ not-one by kind w m (l ∷ []) (suc (suc k)) h e = absurd (omega arith)
 not-one by kind w m (l ∷ l′ ∷ ls) (suc (suc k)) h e = refl
 
 module _ (s : State) (kind : Kind) (w : Process) (m : Namespace) (ls : List Line) (count k : ℕ) (long : length ls ≡ k) where
-  pub single-other : 1 < k → (count ≡ 1 → ⊥) → false ≡ singleLine (byLiftedMaps s) kind w m (take count ls)
-  single-other h e = not-one (byLiftedMaps s) kind w m ls count (omega arith) e
+  pub single-other : 1 < k → (count ≡ 1 → ⊥) → false ≡ singleLine (byKernelStarts s) kind w m (take count ls)
+  single-other h e = not-one (byKernelStarts s) kind w m ls count (omega arith) e
 
   module _ (one : count ≡ 1) (h : 1 < k) where
-    only : singleLine (byLiftedMaps s) kind w m (take count ls) ≡ singleLine (byLiftedMaps s) kind w m (getD ls 0 noLine ∷ [])
+    only : singleLine (byKernelStarts s) kind w m (take count ls) ≡ singleLine (byKernelStarts s) kind w m (getD ls 0 noLine ∷ [])
     only = rw (one, one-line ls noLine (omega arith))
 
-    pub single-many : (getD ls 0 noLine .count ≡ 1 → ⊥) → false ≡ singleLine (byLiftedMaps s) kind w m (take count ls)
-    unfolding singleLine byLiftedMaps
+    pub single-many : (getD ls 0 noLine .count ≡ 1 → ⊥) → false ≡ singleLine (byKernelStarts s) kind w m (take count ls)
+    unfolding singleLine byKernelStarts
     single-many e = sym (only ∙ rw (ne-eqb (getD ls 0 noLine .count) 1 e))
 
     module _ (e : getD ls 0 noLine .count ≡ 1) (ids : Ids) (own : ids ≡ idsIn kind w) (r : Translated) (f : r ≡ toKernel s kind (m .parent) (getD ls 0 noLine .parent)) (t : Bool) (q : t ≡ isId r (ids .effective)) where
-      pub single-foreign : t ≡ false → false ≡ singleLine (byLiftedMaps s) kind w m (take count ls)
-      unfolding singleLine byLiftedMaps
+      pub single-foreign : t ≡ false → false ≡ singleLine (byKernelStarts s) kind w m (take count ls)
+      unfolding singleLine byKernelStarts
       single-foreign y = sym (only ∙ rw (eq-eqb (getD ls 0 noLine .count) 1 e, ← f, ← own, ← q, y))
 
-      pub single-unowned : t ≡ true → (w .users .effective ≡ m .owner → ⊥) → false ≡ singleLine (byLiftedMaps s) kind w m (take count ls)
-      unfolding singleLine byLiftedMaps
+      pub single-unowned : t ≡ true → (w .users .effective ≡ m .owner → ⊥) → false ≡ singleLine (byKernelStarts s) kind w m (take count ls)
+      unfolding singleLine byKernelStarts
       single-unowned y z = sym (only ∙ rw (eq-eqb (getD ls 0 noLine .count) 1 e, ← f, ← own, ← q, y, ne-eqb (w .users .effective) (m .owner) z))
 
-      pub single-owned : (b : Bool) → t ≡ true → w .users .effective ≡ m .owner → b ≡ mayByKind kind (m .deny) → b ≡ singleLine (byLiftedMaps s) kind w m (take count ls)
-      unfolding singleLine byLiftedMaps
+      pub single-owned : (b : Bool) → t ≡ true → w .users .effective ≡ m .owner → b ≡ mayByKind kind (m .deny) → b ≡ singleLine (byKernelStarts s) kind w m (take count ls)
+      unfolding singleLine byKernelStarts
       single-owned b y z p = p ∙ sym (only ∙ rw (eq-eqb (getD ls 0 noLine .count) 1 e, ← f, ← own, ← q, y, eq-eqb (w .users .effective) (m .owner) z))
 
 -- ---- may_map
@@ -163,7 +163,7 @@ lines-some (some ls) k e =
 -- ---- write_lines
 module _ (l text : List ℕ) (kind : Kind) (w : Process) (n : ℕ) (m : Namespace) (tgt : m ≡ namespaceAt (tablesOf l) n) (r : MapText) (f : r ≡ mapText (mapLines text)) where
   abbrev by : Translation
-  by = byLiftedMaps (tablesOf l)
+  by = byKernelStarts (tablesOf l)
 
   pub lines-bad : r .parsed ≡ Bad → Promise (Refused EINVAL) l l (writeLinesTo by (tablesOf l) kind w n text)
   unfolding writeLinesTo
@@ -188,7 +188,7 @@ module _ (l text : List ℕ) (kind : Kind) (w : Process) (n : ℕ) (m : Namespac
 
       module _ (y : t ≡ true) (ws : List ℕ) (above : linesIn ws ≡ linesOf (mapIn kind (namespaceAt (tablesOf l) (m .parent)))) (u : Bool) (g : u ≡ allWhole (wholeByReach (linesIn ws)) (take k (r .lines))) where
         whole-above : u ≡ allWhole (by .whole kind (m .parent)) (take k (r .lines))
-        unfolding byLiftedMaps wholeIn
+        unfolding byKernelStarts wholeIn
         whole-above = rw above at g
 
         pub lines-not-whole : u ≡ false → Promise (Refused EPERM) l l (writeLinesTo by (tablesOf l) kind w n text)

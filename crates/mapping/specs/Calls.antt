@@ -29,7 +29,7 @@ use Rattle.tables.specs.Reply.{Reply, refused, done, bytes, Outcome, refuse, on
 use Rattle.mapping.specs.declared.setgroups.Setting.{Setting}
 use Rattle.mapping.specs.declared.setgroups.Setting.the-variants.{Deny, Allow, Neither}
 use Rattle.hierarchy.specs.Walks.{Translation, capableIn}
-use Rattle.hierarchy.specs.Lifted.{beside}
+use Rattle.hierarchy.specs.KernelStarts.{beside}
 
 -- ---- map write
 -- the writer is in namespace n, the target, or in its parent

@@ -8,7 +8,7 @@ ghost use Rattle.idmap.specs.Good.{maxLines};
 ghost use Rattle.idmap.specs.Show.{lineBytes, linesText};
 ghost use Rattle.tables.specs.Tables.{tablesOf};
 ghost use Rattle.tables.specs.Reply.{replyOf};
-ghost use Rattle.hierarchy.specs.Lifted.{quick};
+ghost use Rattle.hierarchy.specs.KernelStarts.{quick};
 ghost use Rattle.mapping.specs.Calls.{viewOf, shownLine, ReadOutcome, readText, lineCount, readMapOf, readSetgroupsOf};
 use hierarchy::translate::from_kernel;
 use hierarchy::translate::to_kernel;

@@ -5,7 +5,7 @@ ghost use Rattle.idmap.specs.Line.{linesIn};
 ghost use Rattle.idmap.specs.Ranges.{wholeByReach};
 ghost use Rattle.tables.specs.Tables.{tablesOf, namespaceAt};
 ghost use Rattle.tables.specs.Reply.{Promise};
-ghost use Rattle.hierarchy.specs.Lifted.{byLiftedMaps, quick};
+ghost use Rattle.hierarchy.specs.KernelStarts.{byKernelStarts, quick};
 ghost use Rattle.mapping.specs.Calls.{isNear, isId, mayByKind, singleLine, mayMap, allWhole, withMap, writeLinesTo, writeMapTo, writeMapOf};
 use hierarchy::capable::capable;
 use hierarchy::translate::to_kernel;
@@ -80,7 +80,7 @@ fn single_line(
     lines: [Line; MAX_LINES],
     count: usize,
 ) -> bool
-    ensures { λ r. ⌜ r ≡ singleLine (byLiftedMaps (tablesOf (now (t .entry)))) kind w target (take count lines) ⌝ }
+    ensures { λ r. ⌜ r ≡ singleLine (byKernelStarts (tablesOf (now (t .entry)))) kind w target (take count lines) ⌝ }
 {
     // The text is one line of count 1 ..
     if count != 1 {

@@ -22,12 +22,12 @@ use Rattle.tables.specs.declared.find.Found.{Found}
 use Rattle.tables.specs.declared.find.Found.the-variants.{At, Nothing}
 use Rattle.tables.specs.declared.find.Free.{Free}
 use Rattle.tables.specs.declared.find.Free.the-variants.{Place, Full}
-use Rattle.tables.specs.Tables.{State, maxLevel, tablesOf, processAt, namespaceAt, putProcess, putNamespace, clearLiftedMaps}
+use Rattle.tables.specs.Tables.{State, maxLevel, tablesOf, processAt, namespaceAt, putProcess, putNamespace}
 use Rattle.tables.specs.Find.{processNumber, namespaceNumber, callerNamed, namespaceNamed, freeProcessPlace, freeNamespacePlace, freeAs}
 use Rattle.tables.specs.Reply.{Promise}
 use Rattle.tables.proofs.Promises.{refuses, answers, none-free, free-at}
 use Rattle.hierarchy.specs.Walks.{Translation, capableIn}
-use Rattle.hierarchy.specs.Lifted.{fromKernel, byLiftedMaps}
+use Rattle.hierarchy.specs.KernelStarts.{fromKernel, byKernelStarts}
 use Rattle.process.specs.Calls.{forkOf, isMapped, knowsItself, below, withNamespace, entered, cloneOf, unshareOf, setnsOf}
 use Rattle.process.specs.declared.Making.{Making}
 use Rattle.process.specs.declared.Making.the-variants.{Barred, By}
@@ -35,12 +35,12 @@ use Rattle.process.specs.Making.{Makes, HasRoom}
 
 -- ---- knows_itself
 module _ (s : State) (p : Process) (u : Translated) (m : Bool) (f : u ≡ fromKernel s User (p .namespace) (p .users .effective)) (e : m ≡ isMapped u) where
-  pub knows-user : (g : Translated) (k : Bool) → m ≡ true → g ≡ fromKernel s Group (p .namespace) (p .groups .effective) → k ≡ isMapped g → k ≡ knowsItself (byLiftedMaps s) p
-  unfolding knowsItself byLiftedMaps
+  pub knows-user : (g : Translated) (k : Bool) → m ≡ true → g ≡ fromKernel s Group (p .namespace) (p .groups .effective) → k ≡ isMapped g → k ≡ knowsItself (byKernelStarts s) p
+  unfolding knowsItself byKernelStarts
   knows-user g k t h q = q ∙ rw (← f, ← e, t, ← h)
 
-  pub knows-no-user : m ≡ false → false ≡ knowsItself (byLiftedMaps s) p
-  unfolding knowsItself byLiftedMaps
+  pub knows-no-user : m ≡ false → false ≡ knowsItself (byKernelStarts s) p
+  unfolding knowsItself byKernelStarts
   knows-no-user t = rw (← f, ← e, t)
 
 -- ---- member, child_namespace
@@ -52,8 +52,8 @@ pub child-is : (p : Process) (own : Namespace) (m : IdMap) → m ≡ freeMap →
 unfolding below
 child-is p own m e = λ i. record { live = true; parent = p .namespace; level = own .level + 1; owner = p .users .effective; users = e i; groups = e i; deny = own .deny }
 
-pub made-is : (s₀ s₁ s₂ : State) (n : ℕ) (p : Process) (own new : Namespace) → new ≡ below p own → s₁ ≡ putNamespace s₀ n new → s₂ ≡ clearLiftedMaps s₁ n → s₂ ≡ withNamespace s₀ n p own
-made-is s₀ s₁ s₂ n p own new e f g = g ∙ rw (f, e)
+pub made-is : (s₀ s₁ : State) (n : ℕ) (p : Process) (own new : Namespace) → new ≡ below p own → s₁ ≡ putNamespace s₀ n new → s₁ ≡ withNamespace s₀ n p own
+made-is s₀ s₁ n p own new e q = q ∙ rw e
 
 -- ---- fork
 module _ (l : List ℕ) (c : ℕ) (r : Found) (f : r ≡ callerNamed (tablesOf l) c) where

@@ -3,7 +3,7 @@ ghost use mathlib.Core.Path.{_≡_};
 ghost use Prim.Native.Nat.{_<_};
 ghost use Rattle.tables.specs.Tables.{maxLevel, tablesOf};
 ghost use Rattle.tables.specs.Reply.{Promise};
-ghost use Rattle.hierarchy.specs.Lifted.{byLiftedMaps, quick};
+ghost use Rattle.hierarchy.specs.KernelStarts.{byKernelStarts, quick};
 ghost use Rattle.process.specs.Calls.{forkOf, isMapped, knowsItself, below, withNamespace, entered, cloneOf, unshareOf, setnsOf};
 ghost use Rattle.process.specs.Making.{Makes, HasRoom};
 use capability::CAP_SYS_ADMIN;
@@ -25,7 +25,6 @@ use tables::find::find_caller;
 use tables::find::free_namespace_place;
 use tables::find::free_process_place;
 use tables::find::named_namespace;
-use tables::lifted_maps::lifted_maps_clear;
 use tables::namespaces::namespace_at;
 use tables::namespaces::namespace_put;
 use tables::processes::process_at;
@@ -61,7 +60,7 @@ fn mapped(r: Translated) -> bool
 
 // Whether the process's effective user and group ID have a translation into its own namespace.
 fn knows_itself(t: &Tables, p: Process) -> bool
-    ensures { λ r. ⌜ r ≡ knowsItself (byLiftedMaps (tablesOf (now (t .entry)))) p ⌝ }
+    ensures { λ r. ⌜ r ≡ knowsItself (byKernelStarts (tablesOf (now (t .entry)))) p ⌝ }
 {
     let users = p.users;
     let groups = p.groups;
@@ -90,13 +89,12 @@ fn child_namespace(p: Process, own: Namespace) -> Namespace
     }
 }
 
-// Puts that namespace into place `n`, with nothing left of maps that stood there before.
+// Puts that namespace into place `n`.
 fn make_namespace(t: &mut Tables, n: usize, p: Process, own: Namespace)
     requires { ⌜ own .level < maxLevel ⌝ }
     ensures { λ r. ⌜ tablesOf (now (t .exit)) ≡ withNamespace (tablesOf (now (t .entry))) n p own ⌝ }
 {
     namespace_put(t, n, child_namespace(p, own));
-    lifted_maps_clear(t, n);
 }
 
 // A process as a member of a namespace, with both sets full.
@@ -125,7 +123,7 @@ enum Making {
 
 // Clone and unshare alike, up to the free namespace.
 fn find_maker(t: &Tables, caller: u64) -> Making
-    ensures told { λ r. ⌜ Makes (byLiftedMaps (tablesOf (now (t .entry)))) (tablesOf (now (t .entry))) caller r ⌝ }
+    ensures told { λ r. ⌜ Makes (byKernelStarts (tablesOf (now (t .entry)))) (tablesOf (now (t .entry))) caller r ⌝ }
     ensures room { λ r. ⌜ HasRoom (tablesOf (now (t .entry))) r ⌝ }
 {
     // First always: the caller must exist, else 3.

@@ -1,9 +1,8 @@
 -- The written lines of a map, read where their words stand. Assumes nothing.
-use Prim.Native.Nat.{ℕ, zero, suc, _+_, _*_, _≤_, _<_}
-use mathlib.Core.Path.{_≡_, refl, sym, ap, ap₂, _∙_}
-use mathlib.Core.List.{List, _∷_}
+use Prim.Native.Nat.{ℕ, zero, suc, _+_, _*_, _≤_, _<_, _%_, _^_}
+use mathlib.Core.Path.{_≡_, refl, sym, ap, ap₂, _∙_, subst}
+use mathlib.Core.List.{List, [], _∷_, zipWith}
 use native.Mathlib.Nat.{suc-mul}
-use native.Mathlib.Numerals.{add-three}
 use native.Mathlib.Omega.{arith}
 use lib.ListN.{length, getD, take, drop}
 use lib.Seq.{drop-cons}
@@ -13,56 +12,92 @@ use Rattle.prelude.specs.Parts.{part}
 use Rattle.prelude.specs.Lists.{tab}
 use Rattle.prelude.proofs.Made.{tab-same, tab-next, tab-front, tab-whole}
 use Rattle.idmap.specs.declared.Line.{Line}
-use Rattle.idmap.specs.Line.{lineWords, lineOfWords, lineAt, linesIn}
+use Rattle.idmap.specs.Line.{lineWords, insideColumn, parentColumn, countColumn, kernelColumn, lineAt, linesBy, linesIn, kernelLinesIn}
 use Rattle.idmap.specs.Good.{maxLines}
-use Rattle.records.specs.Records.{firstLineAt, mapWidth, mapOf, mapFrom, linesOf}
-use Rattle.records.specs.declared.IdMap.{IdMap}
+use Rattle.records.specs.Records.{firstLineAt, mapWidth, mapOf, mapFrom, onKernel, LinesOf}
 use Rattle.records.proofs.Records.{map-whole, map-other}
 
 -- ---- the lines that words hold, one by one
-line-front : (ws : List ℕ) (n : ℕ) → linesIn (take (suc n * lineWords) ws) ≡ linesIn (take (suc (suc (suc (n * lineWords)))) ws)
-line-front ws n = let e : suc n * lineWords ≡ suc (suc (suc (n * lineWords))) = omega (arith, suc-mul n lineWords) in rw e
+module _ (from to : ℕ) (f : from < lineWords) (t : to < lineWords) (ws : List ℕ) where
+  pub lines-words : (n k : ℕ) → k + n * lineWords ≤ length ws → linesBy from to (take (n * lineWords) (drop k ws)) ≡ tab (λ (j : ℕ). lineAt from to ws (k + lineWords * j)) n 0
+  unfolding linesBy
+  lines-words zero k h = refl
+  lines-words (suc n) k h =
+      let m = suc-mul n lineWords in
+      let shorter : take (suc n * lineWords) (drop k ws) ≡ getD ws k 0 ∷ getD ws (suc k) 0 ∷ getD ws (suc (suc k)) 0 ∷ getD ws (suc (suc (suc k))) 0 ∷ take (n * lineWords) (drop (k + lineWords) ws) =
+      ap (λ (c : ℕ). take c (drop k ws)) front
+      ∙ rw (drop-cons ws k 0 (omega arith), drop-cons ws (suc k) 0 (omega arith), drop-cons ws (suc (suc k)) 0 (omega arith), drop-cons ws (suc (suc (suc k))) 0 (omega arith))
+      (ap (λ (c : ℕ). getD ws k 0 ∷ getD ws (suc k) 0 ∷ getD ws (suc (suc k)) 0 ∷ getD ws (suc (suc (suc k))) 0 ∷ take (n * lineWords) (drop c ws)) past) in
+      rw shorter
+      (ap₂ (λ (x : Line) (xs : List Line). x ∷ xs)
+      (λ i. record { inside = word from f i % 2 ^ 32; parent = word to t i % 2 ^ 32; count = word countColumn (omega arith) i % 2 ^ 32 })
+      (lines-words n (k + lineWords) (omega arith) ∙ tab-same (λ (j : ℕ). lineAt from to ws (k + lineWords + lineWords * j)) (λ (j : ℕ). lineAt from to ws (k + lineWords * suc j)) n 0 step ∙ tab-next (λ (j : ℕ). lineAt from to ws (k + lineWords * j)) n 0))
+    where
+      front : suc n * lineWords ≡ suc (suc (suc (suc (n * lineWords))))
+      front = omega (arith, suc-mul n lineWords)
 
-lines-words : (ws : List ℕ) (n k : ℕ) → k + n * lineWords ≤ length ws → linesIn (take (n * lineWords) (drop k ws)) ≡ tab (λ (j : ℕ). lineAt ws (k + lineWords * j)) n 0
-unfolding linesIn
-lines-words ws zero k h = refl
-lines-words ws (suc n) k h =
-    let m = suc-mul n lineWords in
-    let step : (j : ℕ) → lineAt ws (k + lineWords + lineWords * j) ≡ lineAt ws (k + lineWords * suc j) = λ j. ap (lineAt ws) (omega arith) in
-    let e₀ : k ≡ k + 0 = omega arith in
-    let e₁ : suc k ≡ k + 0 + 1 = omega arith in
-    let e₂ : suc (suc k) ≡ k + 0 + 2 = omega arith in
-    line-front (drop k ws) n
-    ∙ rw (drop-cons ws k 0 (omega arith), drop-cons ws (suc k) 0 (omega arith), drop-cons ws (suc (suc k)) 0 (omega arith), ← add-three k)
-    (ap₂ (λ (x : Line) (xs : List Line). x ∷ xs)
-    (λ i. lineOfWords (getD ws (e₀ i) 0) (getD ws (e₁ i) 0) (getD ws (e₂ i) 0))
-    (lines-words ws n (k + lineWords) (omega arith) ∙ tab-same (λ (j : ℕ). lineAt ws (k + lineWords + lineWords * j)) (λ (j : ℕ). lineAt ws (k + lineWords * suc j)) n 0 step ∙ tab-next (λ (j : ℕ). lineAt ws (k + lineWords * j)) n 0))
+      past : suc (suc (suc (suc k))) ≡ k + lineWords
+      past = omega arith
+
+      step : (j : ℕ) → lineAt from to ws (k + lineWords + lineWords * j) ≡ lineAt from to ws (k + lineWords * suc j)
+      step j = ap (lineAt from to ws) (omega arith)
+
+      word : (c : ℕ) → c < lineWords → getD (getD ws k 0 ∷ getD ws (suc k) 0 ∷ getD ws (suc (suc k)) 0 ∷ getD ws (suc (suc (suc k))) 0 ∷ []) c 0 ≡ getD ws (k + lineWords * 0 + c) 0
+      word zero h = ap (λ (i : ℕ). getD ws i 0) (omega arith)
+      word (suc zero) h = ap (λ (i : ℕ). getD ws i 0) (omega arith)
+      word (suc (suc zero)) h = ap (λ (i : ℕ). getD ws i 0) (omega arith)
+      word (suc (suc (suc zero))) h = ap (λ (i : ℕ). getD ws i 0) (omega arith)
+      word (suc (suc (suc (suc c)))) h = absurd (omega arith)
 
 -- ---- written_lines
+-- the places of a map's lines, from one column to another
+abbrev places : ℕ → List ℕ → List Line
+places to ws = tab (λ (j : ℕ). lineAt insideColumn to ws (firstLineAt + lineWords * j)) maxLines 0
+
+kernel-places : (ws : List ℕ) → places kernelColumn ws ≡ zipWith onKernel (mapOf ws .lines) (mapOf ws .kernel)
+unfolding zipWith
+kernel-places ws = refl
+
 module _ (ws r : List ℕ) (long : length ws ≡ mapWidth) where
-  pub written-some : (n : ℕ) → n ≡ getD ws 1 0 → getD ws 0 0 ≡ 1 → n < maxLines → r ≡ part (n * lineWords) firstLineAt ws → linesIn r ≡ linesOf (mapOf ws)
+  -- the first n of them, all of them, none
+  some-lines : (n to : ℕ) → to < lineWords → n < maxLines → r ≡ part (n * lineWords) firstLineAt ws → linesBy insideColumn to r ≡ take n (places to ws)
   unfolding part
-  written-some n e t h q =
-      q′ ∙ rw (eq-eqb (getD ws 0 0) 1 t, ← e) (sym (tab-front (λ (j : ℕ). lineAt ws (firstLineAt + lineWords * j)) n maxLines 0 (omega arith)))
-    where
-      q′ : linesIn r ≡ tab (λ (j : ℕ). lineAt ws (firstLineAt + lineWords * j)) n 0
-      q′ = ap linesIn q ∙ lines-words ws n firstLineAt (omega arith)
+  some-lines n to t h q =
+      ap (linesBy insideColumn to) q ∙ lines-words insideColumn to (omega arith) t ws n firstLineAt (omega arith)
+      ∙ sym (tab-front (λ (j : ℕ). lineAt insideColumn to ws (firstLineAt + lineWords * j)) n maxLines 0 (omega arith))
 
-  pub written-all : (n : ℕ) → n ≡ getD ws 1 0 → getD ws 0 0 ≡ 1 → maxLines ≤ n → r ≡ part (lineWords * maxLines) firstLineAt ws → linesIn r ≡ linesOf (mapOf ws)
+  all-lines : (n to : ℕ) → to < lineWords → maxLines ≤ n → r ≡ part (lineWords * maxLines) firstLineAt ws → linesBy insideColumn to r ≡ take n (places to ws)
   unfolding part
-  written-all n e t h q =
-      ap linesIn q ∙ lines-words ws maxLines firstLineAt (omega arith) ∙ rw (eq-eqb (getD ws 0 0) 1 t, ← e) (sym (tab-whole (λ (j : ℕ). lineAt ws (firstLineAt + lineWords * j)) n maxLines 0 h))
+  all-lines n to t h q =
+      ap (linesBy insideColumn to) q ∙ lines-words insideColumn to (omega arith) t ws maxLines firstLineAt (omega arith)
+      ∙ sym (tab-whole (λ (j : ℕ). lineAt insideColumn to ws (firstLineAt + lineWords * j)) n maxLines 0 h)
 
-  pub written-none : (getD ws 0 0 ≡ 1 → ⊥) → r ≡ part 0 firstLineAt ws → linesIn r ≡ linesOf (mapOf ws)
-  unfolding part linesIn
-  written-none t q = ap linesIn q ∙ rw (ne-eqb (getD ws 0 0) 1 t)
+  module _ (n : ℕ) (e : n ≡ getD ws 1 0) (t : getD ws 0 0 ≡ 1) where
+    pub written-some : n < maxLines → r ≡ part (n * lineWords) firstLineAt ws → LinesOf r (mapOf ws)
+    written-some h q = record {
+      written = some-lines n parentColumn (omega arith) h q ∙ rw (eq-eqb (getD ws 0 0) 1 t, ← e);
+      kernel = some-lines n kernelColumn (omega arith) h q ∙ rw (eq-eqb (getD ws 0 0) 1 t, ← e) (ap (take n) (kernel-places ws));
+    }
+
+    pub written-all : maxLines ≤ n → r ≡ part (lineWords * maxLines) firstLineAt ws → LinesOf r (mapOf ws)
+    written-all h q = record {
+      written = all-lines n parentColumn (omega arith) h q ∙ rw (eq-eqb (getD ws 0 0) 1 t, ← e);
+      kernel = all-lines n kernelColumn (omega arith) h q ∙ rw (eq-eqb (getD ws 0 0) 1 t, ← e) (ap (take n) (kernel-places ws));
+    }
+
+  pub written-none : (getD ws 0 0 ≡ 1 → ⊥) → r ≡ part 0 firstLineAt ws → LinesOf r (mapOf ws)
+  unfolding part linesBy
+  written-none t q = record {
+    written = ap linesIn q ∙ rw (ne-eqb (getD ws 0 0) 1 t);
+    kernel = ap kernelLinesIn q ∙ rw (ne-eqb (getD ws 0 0) 1 t);
+  }
 
 -- ---- lines_of
-pub lines-whole : (ws r : List ℕ) → length ws ≡ mapWidth → linesIn r ≡ linesOf (mapOf ws) → linesIn r ≡ linesOf (mapFrom ws)
-lines-whole ws r h e = e ∙ ap (λ (m : IdMap). linesOf m) (sym (map-whole ws h))
+pub lines-whole : (ws r : List ℕ) → length ws ≡ mapWidth → LinesOf r (mapOf ws) → LinesOf r (mapFrom ws)
+lines-whole ws r h e = subst (LinesOf r) (sym (map-whole ws h)) e
 
-pub lines-other : (ws r : List ℕ) → (length ws ≡ mapWidth → ⊥) → r ≡ part 0 0 ws → linesIn r ≡ linesOf (mapFrom ws)
-unfolding part linesIn
-lines-other ws r h e = ap linesIn e ∙ ap (λ (m : IdMap). linesOf m) (sym (map-other ws h))
+pub lines-other : (ws r : List ℕ) → (length ws ≡ mapWidth → ⊥) → r ≡ part 0 0 ws → LinesOf r (mapFrom ws)
+unfolding part linesBy
+lines-other ws r h e = subst (LinesOf r) (sym (map-other ws h)) (record { written = ap linesIn e; kernel = ap kernelLinesIn e })
 
 pub ruleset lines = (written-some, written-all, written-none, lines-whole, lines-other, needs)

@@ -14,7 +14,7 @@ use Rattle.prelude.proofs.Lists.{copy-step, copy-all}
 use Rattle.prelude.specs.Lists.{tab}
 use Rattle.prelude.proofs.Made.{tab-all}
 use Rattle.idmap.specs.declared.Line.{Line}
-use Rattle.idmap.specs.Line.{noLine, lineWords, lineOfWords, lineAt}
+use Rattle.idmap.specs.Line.{noLine, lineWords, insideColumn, parentColumn, kernelColumn, lineOf, lineAt}
 use Rattle.idmap.specs.Good.{maxLines}
 use Rattle.records.specs.declared.Kind.the-variants.{User, Group}
 use Rattle.records.specs.declared.MapState.{MapState}
@@ -23,7 +23,7 @@ use Rattle.records.specs.declared.IdMap.{IdMap}
 use Rattle.records.specs.declared.Namespace.{Namespace}
 use Rattle.records.specs.declared.Ids.{Ids}
 use Rattle.records.specs.declared.Process.{Process}
-use Rattle.records.specs.Records.{flagWord, idsAt, maxGroups, processWidth, freeProcess, processOf, processFrom, stateOf, stateTag, stateCount, firstLineAt, mapWidth, mapAt, mapOf, mapFrom, freeMap, denyAt, namespaceWidth, namespaceOf, namespaceFrom, freeNamespace}
+use Rattle.records.specs.Records.{flagWord, lowAt, idsAt, maxGroups, processWidth, freeProcess, processOf, processFrom, stateOf, stateTag, stateCount, firstLineAt, mapWidth, mapAt, mapOf, mapFrom, freeMap, denyAt, namespaceWidth, namespaceOf, namespaceFrom, freeNamespace}
 
 pub flag-round : (b : Bool) → eqb (flagWord b) 1 ≡ b
 flag-round true = refl
@@ -80,25 +80,47 @@ state-round Unwritten = refl
 state-round (Written n) = refl
 
 -- a map from its words, line by line
-pub map-read : (ws : List ℕ) (a b c d e : Line) (s : MapState) → a ≡ lineAt ws (firstLineAt + lineWords * 0) → b ≡ lineAt ws (firstLineAt + lineWords * 1) → c ≡ lineAt ws (firstLineAt + lineWords * 2)
-    → d ≡ lineAt ws (firstLineAt + lineWords * 3) → e ≡ lineAt ws (firstLineAt + lineWords * 4)
-    → s ≡ stateOf (getD ws 0 0) (getD ws 1 0) → _≡_ {A = IdMap} (record { state = s; lines = a ∷ b ∷ c ∷ d ∷ e ∷ [] }) (mapOf ws)
-map-read ws a b c d e s p q r t u v = λ i. record { state = v i; lines = p i ∷ q i ∷ r i ∷ t i ∷ u i ∷ [] }
+module _ (ws : List ℕ) where
+  abbrev lineIs : ℕ → Line → Type 0
+  lineIs j l = l ≡ lineAt insideColumn parentColumn ws (firstLineAt + lineWords * j)
 
--- a line from its words, whose numbers have 32 bits
-pub line-round : (l : Line) → Fits w32 (l .inside) → Fits w32 (l .parent) → Fits w32 (l .count) → lineAt (l .inside ∷ l .parent ∷ l .count ∷ []) 0 ≡ l
-line-round l i p c = rw (narrow i, narrow p, narrow c)
+  abbrev kernelIs : ℕ → ℕ → Type 0
+  kernelIs j y = y ≡ lowAt ws (firstLineAt + lineWords * j + kernelColumn)
 
--- three words of a line
-abbrev three : List ℕ → List ℕ → List ℕ
-three l rest = getD l 0 0 ∷ getD l 1 0 ∷ getD l 2 0 ∷ rest
+  pub map-read : (a b c d e : Line) (v w x y z : ℕ) (s : MapState) → lineIs 0 a → lineIs 1 b → lineIs 2 c → lineIs 3 d → lineIs 4 e
+      → kernelIs 0 v → kernelIs 1 w → kernelIs 2 x → kernelIs 3 y → kernelIs 4 z → s ≡ stateOf (getD ws 0 0) (getD ws 1 0)
+      → _≡_ {A = IdMap} (record { state = s; lines = a ∷ b ∷ c ∷ d ∷ e ∷ []; kernel = v ∷ w ∷ x ∷ y ∷ z ∷ [] }) (mapOf ws)
+  map-read a b c d e v w x y z s pa pb pc pd pe pv pw px py pz q =
+      λ i. record { state = q i; lines = pa i ∷ pb i ∷ pc i ∷ pd i ∷ pe i ∷ []; kernel = pv i ∷ pw i ∷ px i ∷ py i ∷ pz i ∷ [] }
 
-pub map-round : (m : IdMap) (t n : ℕ) (a b c d e : List ℕ) → t ≡ stateTag (m .state) → n ≡ stateCount (m .state) → length (m .lines) ≡ maxLines
-    → lineAt a 0 ≡ getD (m .lines) 0 noLine → lineAt b 0 ≡ getD (m .lines) 1 noLine → lineAt c 0 ≡ getD (m .lines) 2 noLine
-    → lineAt d 0 ≡ getD (m .lines) 3 noLine → lineAt e 0 ≡ getD (m .lines) 4 noLine
-    → mapOf (t ∷ n ∷ three a (three b (three c (three d (three e []))))) ≡ m
-map-round m t n a b c d e p q h u v x y z =
-    λ i. record { state = (ap₂ stateOf p q ∙ state-round (m .state)) i; lines = ((λ j. u j ∷ v j ∷ x j ∷ y j ∷ z j ∷ []) ∙ tab-all (m .lines) noLine maxLines h) i }
+-- a line and its kernel start from their words, of 32 bits each
+module _ (l : Line) (y : ℕ) where
+  pub line-round : Fits w32 (l .inside) → Fits w32 (l .parent) → Fits w32 (l .count) → lineOf insideColumn parentColumn (l .inside ∷ l .parent ∷ l .count ∷ y ∷ []) ≡ l
+  line-round i p c = rw (narrow i, narrow p, narrow c)
+
+  pub kernel-round : Fits w32 y → lowAt (l .inside ∷ l .parent ∷ l .count ∷ y ∷ []) kernelColumn ≡ y
+  kernel-round f = narrow f
+
+-- four words of a line
+abbrev four : List ℕ → List ℕ → List ℕ
+four l rest = getD l 0 0 ∷ getD l 1 0 ∷ getD l 2 0 ∷ getD l 3 0 ∷ rest
+
+module _ (m : IdMap) where
+  -- words hold line j, and its kernel start
+  abbrev holdsLine : ℕ → List ℕ → Type 0
+  holdsLine j ws = lineOf insideColumn parentColumn ws ≡ getD (m .lines) j noLine
+
+  abbrev holdsKernel : ℕ → List ℕ → Type 0
+  holdsKernel j ws = lowAt ws kernelColumn ≡ getD (m .kernel) j 0
+
+  pub map-round : (t n : ℕ) (a b c d e : List ℕ) → t ≡ stateTag (m .state) → n ≡ stateCount (m .state) → length (m .lines) ≡ maxLines → length (m .kernel) ≡ maxLines
+      → holdsLine 0 a → holdsKernel 0 a → holdsLine 1 b → holdsKernel 1 b → holdsLine 2 c → holdsKernel 2 c → holdsLine 3 d → holdsKernel 3 d → holdsLine 4 e → holdsKernel 4 e
+      → mapOf (t ∷ n ∷ four a (four b (four c (four d (four e []))))) ≡ m
+  map-round t n a b c d e p q h k la ka lb kb lc kc ld kd le ke = λ i. record {
+    state = (ap₂ stateOf p q ∙ state-round (m .state)) i;
+    lines = ((λ j. la j ∷ lb j ∷ lc j ∷ ld j ∷ le j ∷ []) ∙ tab-all (m .lines) noLine maxLines h) i;
+    kernel = ((λ j. ka j ∷ kb j ∷ kc j ∷ kd j ∷ ke j ∷ []) ∙ tab-all (m .kernel) 0 maxLines k) i;
+  }
 
 -- ---- a namespace
 abbrev namespaceRow : ℕ → List ℕ → List ℕ → ℕ → Namespace → List ℕ
@@ -165,6 +187,7 @@ pub ruleset records = (
   state-unwritten,
   map-read,
   line-round,
+  kernel-round,
   map-round,
   namespace-read,
   namespace-free,

@@ -1,14 +1,15 @@
 -- The records of the tables, and the rows of words that hold them. Nothing here is to be believed but that the layout
 -- loses nothing: a record's words are read as the record (proofs/Records.antt). Assumes nothing.
 use Prim.Native.Nat.{ℕ, _+_, _*_, _%_, _^_}
-use mathlib.Core.List.{List, []}
+use mathlib.Core.Path.{_≡_}
+use mathlib.Core.List.{List, [], zipWith}
 use mathlib.Core.Bool.{Bool, true, false, cond}
 use lib.ListN.{length, getD, take, drop, replicate}
 use lib.Dec.{eqb}
 use Rattle.prelude.specs.Lists.{tab}
 use Rattle.capability.specs.Sets.{capSetgid, capSetuid, emptySet}
 use Rattle.idmap.specs.declared.Line.{Line}
-use Rattle.idmap.specs.Line.{noLine, lineWords, lineAt}
+use Rattle.idmap.specs.Line.{noLine, lineWords, insideColumn, parentColumn, kernelColumn, lineAt, linesIn, kernelLinesIn}
 use Rattle.idmap.specs.Good.{maxLines}
 use Rattle.records.specs.declared.Kind.{Kind}
 use Rattle.records.specs.declared.Kind.the-variants.{User, Group}
@@ -91,7 +92,8 @@ freeProcess = record {
 abbrev pub stateOf : ℕ → ℕ → MapState
 stateOf tag n = cond (eqb tag 1) (Written n) Unwritten
 
--- a map's words: whether it is written, with how many lines, and the words of as many lines as there may be
+-- a map's words: whether it is written, with how many lines, and the words of as many lines as there may be, each with
+-- its kernel start, which the code keeps beside it
 abbrev pub firstLineAt : ℕ
 firstLineAt = 2
 
@@ -99,10 +101,14 @@ abbrev pub mapWidth : ℕ
 mapWidth = firstLineAt + lineWords * maxLines
 
 abbrev pub mapOf : List ℕ → IdMap
-mapOf ws = record { state = stateOf (getD ws 0 0) (getD ws 1 0); lines = tab (λ (j : ℕ). lineAt ws (firstLineAt + lineWords * j)) maxLines 0 }
+mapOf ws = record {
+  state = stateOf (getD ws 0 0) (getD ws 1 0);
+  lines = tab (λ (j : ℕ). lineAt insideColumn parentColumn ws (firstLineAt + lineWords * j)) maxLines 0;
+  kernel = tab (λ (j : ℕ). lowAt ws (firstLineAt + lineWords * j + kernelColumn)) maxLines 0;
+}
 
 abbrev pub freeMap : IdMap
-freeMap = record { state = Unwritten; lines = replicate maxLines noLine }
+freeMap = record { state = Unwritten; lines = replicate maxLines noLine; kernel = replicate maxLines 0 }
 
 -- a namespace's row: whether it is live, its parent, its level, its owner, the words of its user map, those of its
 -- group map, and whether setgroups is denied
@@ -175,3 +181,18 @@ linesIf (Written n) ls = take n ls
 
 abbrev pub linesOf : IdMap → List Line
 linesOf m = linesIf (m .state) (m .lines)
+
+-- ---- what the code keeps beside the lines. NOT to be believed: no definition reads it but those of
+-- hierarchy/specs/KernelStarts.antt
+-- a line with a kernel ID on the parent side
+abbrev pub onKernel : Line → ℕ → Line
+onKernel l y = record { inside = l .inside; parent = y; count = l .count }
+
+-- the lines of a map with the kernel IDs on the parent side
+abbrev pub kernelLinesOf : IdMap → List Line
+kernelLinesOf m = linesIf (m .state) (zipWith onKernel (m .lines) (m .kernel))
+
+-- words hold the lines of a map, and the same with the kernel IDs on the parent side
+pub record LinesOf (ws : List ℕ) (m : IdMap) : Type 0 where
+  pub written : linesIn ws ≡ linesOf m
+  pub kernel : kernelLinesIn ws ≡ kernelLinesOf m

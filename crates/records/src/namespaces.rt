@@ -3,8 +3,8 @@ ghost use mathlib.Core.Path.{_≡_};
 ghost use Prim.Native.Nat.{_+_, _*_, _<_};
 ghost use lib.ListN.{length};
 ghost use Rattle.idmap.specs.Good.{maxLines};
-ghost use Rattle.idmap.specs.Line.{lineWords, lineAt, linesIn};
-ghost use Rattle.records.specs.Records.{stateOf, stateTag, stateCount, firstLineAt, mapWidth, mapAt, mapOf, mapFrom, linesOf, freeMap, freeNamespace, namespaceWidth, namespaceOf, namespaceFrom};
+ghost use Rattle.idmap.specs.Line.{lineWords, insideColumn, parentColumn, kernelColumn, lineOf, lineAt};
+ghost use Rattle.records.specs.Records.{lowAt, stateOf, stateTag, stateCount, firstLineAt, mapWidth, mapAt, mapOf, mapFrom, LinesOf, freeMap, freeNamespace, namespaceWidth, namespaceOf, namespaceFrom};
 use crate::IdMap;
 use crate::Kind;
 use crate::MapState;
@@ -88,17 +88,26 @@ fn state_count(s: MapState) -> u64
     }
 }
 
-// Line `i` of a map's words.
+// Line `i` of a map's words, as it was written.
 fn line_of(words: &[u64], i: usize) -> Line
     requires { ⌜ (i < maxLines) × (length (now words) ≡ mapWidth) ⌝ }
-    ensures { λ r. ⌜ r ≡ lineAt (now (words .entry)) (firstLineAt + lineWords * i) ⌝ }
+    ensures { λ r. ⌜ r ≡ lineAt insideColumn parentColumn (now (words .entry)) (firstLineAt + lineWords * i) ⌝ }
 {
     let at = LINES + LINE_WORDS * i;
     Line {
-        inside: (words[at] % TWO_TO_32) as u32,
-        parent: (words[at + 1] % TWO_TO_32) as u32,
-        count: (words[at + 2] % TWO_TO_32) as u32,
+        inside: (words[at + idmap::INSIDE] % TWO_TO_32) as u32,
+        parent: (words[at + idmap::PARENT] % TWO_TO_32) as u32,
+        count: (words[at + idmap::COUNT] % TWO_TO_32) as u32,
     }
+}
+
+// The kernel start of line `i`.
+fn kernel_of(words: &[u64], i: usize) -> u32
+    requires { ⌜ (i < maxLines) × (length (now words) ≡ mapWidth) ⌝ }
+    ensures { λ r. ⌜ r ≡ lowAt (now (words .entry)) (firstLineAt + lineWords * i + kernelColumn) ⌝ }
+{
+    let at = LINES + LINE_WORDS * i;
+    (words[at + idmap::KERNEL] % TWO_TO_32) as u32
 }
 
 // The map that a map's words hold.
@@ -111,17 +120,31 @@ fn map_of(words: &[u64]) -> IdMap
     let c = line_of(words, 2);
     let d = line_of(words, 3);
     let e = line_of(words, 4);
+    let kernel = [
+        kernel_of(words, 0),
+        kernel_of(words, 1),
+        kernel_of(words, 2),
+        kernel_of(words, 3),
+        kernel_of(words, 4),
+    ];
     IdMap {
         state: state_of(words[STATE], words[COUNT]),
         lines: [a, b, c, d, e],
+        kernel: kernel,
     }
 }
 
-// The words that are read as a line.
-fn line_words(l: Line) -> [u64; LINE_WORDS]
-    ensures { λ r. ⌜ lineAt r 0 ≡ l ⌝ }
+// The words that are read as a line and its kernel start.
+fn line_words(l: Line, kernel: u32) -> [u64; LINE_WORDS]
+    ensures written { λ r. ⌜ lineOf insideColumn parentColumn r ≡ l ⌝ }
+    ensures kept { λ r. ⌜ lowAt r kernelColumn ≡ kernel ⌝ }
 {
-    [l.inside as u64, l.parent as u64, l.count as u64]
+    [
+        l.inside as u64,
+        l.parent as u64,
+        l.count as u64,
+        kernel as u64,
+    ]
 }
 
 // The words that are read as a map.
@@ -130,29 +153,35 @@ pub fn map_words(m: IdMap) -> [u64; MAP_WIDTH]
 {
     let state = m.state;
     let lines = m.lines;
-    let a = line_words(lines[0]);
-    let b = line_words(lines[1]);
-    let c = line_words(lines[2]);
-    let d = line_words(lines[3]);
-    let e = line_words(lines[4]);
+    let kernel = m.kernel;
+    let a = line_words(lines[0], kernel[0]);
+    let b = line_words(lines[1], kernel[1]);
+    let c = line_words(lines[2], kernel[2]);
+    let d = line_words(lines[3], kernel[3]);
+    let e = line_words(lines[4], kernel[4]);
     [
         state_tag(state),
         state_count(state),
         a[0],
         a[1],
         a[2],
+        a[3],
         b[0],
         b[1],
         b[2],
+        b[3],
         c[0],
         c[1],
         c[2],
+        c[3],
         d[0],
         d[1],
         d[2],
+        d[3],
         e[0],
         e[1],
         e[2],
+        e[3],
     ]
 }
 
@@ -204,6 +233,11 @@ pub fn namespace_words(n: Namespace) -> [u64; NAMESPACE_WIDTH]
         u[14],
         u[15],
         u[16],
+        u[17],
+        u[18],
+        u[19],
+        u[20],
+        u[21],
         g[0],
         g[1],
         g[2],
@@ -221,6 +255,11 @@ pub fn namespace_words(n: Namespace) -> [u64; NAMESPACE_WIDTH]
         g[14],
         g[15],
         g[16],
+        g[17],
+        g[18],
+        g[19],
+        g[20],
+        g[21],
         flag_word(n.deny),
     ]
 }
@@ -232,6 +271,7 @@ pub fn free_map() -> IdMap
     IdMap {
         state: MapState::Unwritten,
         lines: [NO_LINE; MAX_LINES],
+        kernel: [0; MAX_LINES],
     }
 }
 
@@ -265,7 +305,7 @@ pub fn namespace_of(row: &[u64]) -> Namespace
 // The words of the lines that a map's words hold, if it is written.
 fn written_lines(words: &[u64]) -> &[u64]
     requires { ⌜ length (now words) ≡ mapWidth ⌝ }
-    ensures { λ r. ⌜ linesIn (now r) ≡ linesOf (mapOf (now (words .entry))) ⌝ }
+    ensures { λ r. ⌜ LinesOf (now r) (mapOf (now (words .entry))) ⌝ }
 {
     if words[STATE] == WRITTEN {
         let n = words[COUNT];
@@ -281,7 +321,7 @@ fn written_lines(words: &[u64]) -> &[u64]
 
 // The words of the written lines of a map, among the words that hold the map. Words of another number hold none.
 pub fn lines_of(words: &[u64]) -> &[u64]
-    ensures { λ r. ⌜ linesIn (now r) ≡ linesOf (mapFrom (now (words .entry))) ⌝ }
+    ensures { λ r. ⌜ LinesOf (now r) (mapFrom (now (words .entry))) ⌝ }
 {
     if words.len() == MAP_WIDTH {
         written_lines(words)

@@ -20,7 +20,7 @@ use Rattle.tables.specs.Find.{callerNamed, processNamed}
 use Rattle.tables.specs.declared.find.Found.{Found}
 use Rattle.tables.specs.declared.find.Found.the-variants.{At, Nothing}
 use Rattle.tables.specs.Reply.{refused, bytes, onFound}
-use Rattle.hierarchy.specs.Lifted.{byLiftedMaps, quick}
+use Rattle.hierarchy.specs.KernelStarts.{byKernelStarts, quick}
 use Rattle.mapping.specs.Calls.{ReadOutcome, readText, viewOf, shownLine, mapTextOf, readMapOf, settingText, readSetgroupsOf}
 use Rattle.calls.specs.declared.Call.{Call}
 use Rattle.calls.specs.declared.Call.the-variants.{Fork, Clone, Unshare, Setns, WriteMap, WriteSetgroups, ReadMap, ReadSetgroups, SetIds, SetGroups, Capable, Drop, OwnIdsOf, Translate}
@@ -43,11 +43,11 @@ unfolding linesText
 lines-long [] = refl
 lines-long (x ∷ ls) = length-append (lineText x) (linesText ls) ∙ omega (arith, line-long x, lines-long ls)
 
-map-short : (s : State) (k : Kind) (n v : ℕ) → FewLines s → length (mapTextOf (byLiftedMaps s) s k n v) ≤ maxRead
+map-short : (s : State) (k : Kind) (n v : ℕ) → FewLines s → length (mapTextOf (byKernelStarts s) s k n v) ≤ maxRead
 unfolding mapTextOf
 map-short s k n v few =
     let ls = linesOf (mapIn k (namespaceAt s n)) in
-    let f = shownLine (byLiftedMaps s) s k n v in
+    let f = shownLine (byKernelStarts s) s k n v in
     omega (arith, lines-long (map f ls), length-map ls f, few k n)
 
 setting-short : (deny : Bool) → length (settingText deny) ≤ maxRead
@@ -137,11 +137,11 @@ module _ (s : State) (l : List ℕ) (few : FewLines s) (buffer : List ℕ) (full
     whole-long : length whole ≡ r .buffer
     whole-long = length-replicate (r .buffer) 0
 
-    map-alike : (k : Kind) (c p : ℕ) → Alike (readMapOf (byLiftedMaps s) s k c p short) (readMapOf (byLiftedMaps s) s k c p whole) (drop (r .buffer) buffer)
+    map-alike : (k : Kind) (c p : ℕ) → Alike (readMapOf (byKernelStarts s) s k c p short) (readMapOf (byKernelStarts s) s k c p whole) (drop (r .buffer) buffer)
     unfolding readMapOf
     map-alike k c p =
         reading-alike short whole (drop (r .buffer) buffer) (r .buffer) short-long whole-long (callerNamed s c) (λ (i : ℕ). processNamed s i p)
-        (λ (i j : ℕ). mapTextOf (byLiftedMaps s) s k (processAt s j .namespace) (viewOf s (processAt s i) (processAt s j .namespace)))
+        (λ (i j : ℕ). mapTextOf (byKernelStarts s) s k (processAt s j .namespace) (viewOf s (processAt s i) (processAt s j .namespace)))
         (λ i j. map-short s k (processAt s j .namespace) (viewOf s (processAt s i) (processAt s j .namespace)) few)
 
     setting-alike : (c p : ℕ) → Alike (readSetgroupsOf s c p short) (readSetgroupsOf s c p whole) (drop (r .buffer) buffer)

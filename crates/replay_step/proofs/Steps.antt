@@ -14,7 +14,7 @@ use Rattle.prelude.proofs.Lists.{take-min}
 use Rattle.prelude.proofs.Parts.{part-range, part-put-same, length-put}
 use Rattle.tables.specs.Tables.{State, tablesOf}
 use Rattle.tables.specs.declared.answer.Answer.the-variants.{Done}
-use Rattle.hierarchy.specs.Lifted.{quick}
+use Rattle.hierarchy.specs.KernelStarts.{quick}
 use Rattle.credentials.specs.Calls.{groupList}
 use Rattle.calls.specs.declared.Response.{Response}
 use Rattle.calls.specs.Calls.{Step, answerBy, callReply, plainOf, CallPromise}

@@ -10,7 +10,7 @@ use Rattle.records.specs.declared.Kind.{Kind}
 use Rattle.records.specs.Records.{mapIn, linesOf}
 use Rattle.tables.specs.Tables.{State, namespaceAt}
 use Rattle.tables.specs.Reply.{done, bytes}
-use Rattle.hierarchy.specs.Lifted.{quick}
+use Rattle.hierarchy.specs.KernelStarts.{quick}
 use Rattle.calls.specs.Calls.{Step, answerBy, answerOf}
 use Rattle.journal.specs.declared.read.Record.{Record}
 use Rattle.journal.specs.declared.read.Read.{Read}

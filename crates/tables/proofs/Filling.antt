@@ -10,18 +10,12 @@ use lib.ListN.{length, getD, set, replicate, drop-of-length-le}
 use lib.Seq.{paste, paste-zero, paste-suc, take-all}
 use lib.ListN.{getD-replicate}
 use borrow.Author.Needs.{needs}
-use Rattle.prelude.specs.Parts.{part}
-use Rattle.idmap.specs.Line.{linesIn}
-use Rattle.idmap.specs.Good.{noId}
-use Rattle.lifted_map.specs.Lift.{Lifted, liftedWidth, countedLines, liftedIn}
 use Rattle.records.specs.declared.Process.{Process}
 use Rattle.records.specs.declared.Namespace.{Namespace}
 use Rattle.records.specs.declared.IdMap.{IdMap}
-use Rattle.records.specs.declared.Kind.{Kind}
-use Rattle.records.specs.declared.Kind.the-variants.{User, Group}
 use Rattle.records.specs.Records.{freeProcess, freeNamespace}
-use Rattle.tables.specs.Tables.{State, processPlaces, namespacePlaces, tablesOf, liftedMaps, putProcess, putNamespace, putLiftedMap, withProcesses, withNamespaces, withLiftedMaps, firstProcess, fixedMap, noLift, fixedLift, rootNamespace, firstLiftedMaps, initialTables}
-use Rattle.tables.proofs.Tables.{length-processes, length-namespaces, length-lifted-maps}
+use Rattle.tables.specs.Tables.{State, processPlaces, namespacePlaces, tablesOf, putProcess, putNamespace, withProcesses, withNamespaces, firstProcess, fixedMap, rootNamespace, initialTables}
+use Rattle.tables.proofs.Tables.{length-processes, length-namespaces}
 
 module _ {A : Type 0} (qs ps : List A) where
   fill-more : (i : ℕ) (d : A) → i < length qs → i < length ps → set (paste qs 0 ps i) i (getD ps i d) ≡ paste qs 0 ps (i + 1)
@@ -88,56 +82,13 @@ module _ (l : List ℕ) where
         let k = length-namespaces l in
         e ∙ rw (q, inv, fill-all (tablesOf l .namespaces) (replicate namespacePlaces freeNamespace) i (omega arith) h)
 
--- ---- lifted maps, of a kind
-pub liftedMapsIn : State → Kind → ℕ → State
-liftedMapsIn s k i = withLiftedMaps s k (paste (liftedMaps k s) 0 (replicate namespacePlaces noLift) i)
-
--- lists put one after the other: the last one stands
-put-again : (s : State) (k : Kind) (ms : List Lifted) (i : ℕ) (m : Lifted) → putLiftedMap (withLiftedMaps s k ms) k i m ≡ withLiftedMaps s k (set ms i m)
-put-again s User ms i m = refl
-put-again s Group ms i m = refl
-
-put-none : (s : State) (k : Kind) → s ≡ withLiftedMaps s k (liftedMaps k s)
-put-none s User = refl
-put-none s Group = refl
-
-module _ (l : List ℕ) (k : Kind) where
-  pub lifted-maps-none : tablesOf l ≡ liftedMapsIn (tablesOf l) k 0
-  unfolding liftedMapsIn
-  lifted-maps-none = put-none (tablesOf l) k ∙ ap (withLiftedMaps (tablesOf l) k) (paste-zero (liftedMaps k (tablesOf l)) 0 (replicate namespacePlaces noLift))
-
-  module _ (l′ : List ℕ) (i : ℕ) (inv : tablesOf l′ ≡ liftedMapsIn (tablesOf l) k i) where
-    pub lifted-maps-more : (free : Lifted) (s : State) → i < namespacePlaces → free ≡ noLift → s ≡ putLiftedMap (tablesOf l′) k i free → s ≡ liftedMapsIn (tablesOf l) k (i + 1)
-    unfolding liftedMapsIn
-    lifted-maps-more free s h q e =
-        let j = length-lifted-maps k l in
-        let d : getD (replicate namespacePlaces noLift) i noLift ≡ noLift = getD-replicate namespacePlaces i noLift noLift h in
-        let ms = paste (liftedMaps k (tablesOf l)) 0 (replicate namespacePlaces noLift) i in
-        e ∙ rw (q, inv) (put-again (tablesOf l) k ms i noLift ∙ ap (λ (m : Lifted). withLiftedMaps (tablesOf l) k (set ms i m)) (sym d) ∙ ap (withLiftedMaps (tablesOf l) k) (fill-more (liftedMaps k (tablesOf l)) (replicate namespacePlaces noLift) i noLift (omega arith) h))
-
-    pub lifted-maps-all : (fixed : Lifted) (s : State) → namespacePlaces ≤ i → fixed ≡ fixedLift → s ≡ putLiftedMap (tablesOf l′) k 0 fixed → s ≡ withLiftedMaps (tablesOf l) k firstLiftedMaps
-    unfolding liftedMapsIn firstLiftedMaps
-    lifted-maps-all fixed s h q e =
-        let j = length-lifted-maps k l in
-        e ∙ rw (q, inv, fill-all (liftedMaps k (tablesOf l)) (replicate namespacePlaces noLift) i (omega arith) h) (put-again (tablesOf l) k (replicate namespacePlaces noLift) 0 fixedLift)
-
--- the rows of words that they are filled with
-pub row-empty : liftedIn (replicate liftedWidth 0) ≡ noLift
-unfolding liftedIn countedLines part linesIn
-row-empty = refl
-
-pub row-fixed : liftedIn (set (set (replicate liftedWidth 0) 0 1) 4 noId) ≡ fixedLift
-unfolding liftedIn countedLines part linesIn
-row-fixed = refl
-
 -- ---- the root, and all
 pub root-made : (m : IdMap) → m ≡ fixedMap → record { live = true; parent = 0; level = 0; owner = 0; users = m; groups = m; deny = false } ≡ rootNamespace
 root-made m e = rw e
 
-pub all-filled : (s₀ s₁ s₂ s₃ s₄ : State) → s₁ ≡ withProcesses s₀ (initialTables .processes) → s₂ ≡ withNamespaces s₁ (initialTables .namespaces)
-    → s₃ ≡ withLiftedMaps s₂ User firstLiftedMaps → s₄ ≡ withLiftedMaps s₃ Group firstLiftedMaps → s₄ ≡ initialTables
+pub all-filled : (s₀ s₁ s₂ : State) → s₁ ≡ withProcesses s₀ (initialTables .processes) → s₂ ≡ withNamespaces s₁ (initialTables .namespaces) → s₂ ≡ initialTables
 unfolding initialTables
-all-filled s₀ s₁ s₂ s₃ s₄ e q u g = g ∙ rw (u, q, e)
+all-filled s₀ s₁ s₂ e q = q ∙ rw e
 
 pub ruleset filling = (
   places-are,
@@ -147,11 +98,6 @@ pub ruleset filling = (
   namespaces-none,
   namespaces-more,
   namespaces-all,
-  lifted-maps-none,
-  lifted-maps-more,
-  lifted-maps-all,
-  row-empty,
-  row-fixed,
   root-made,
   all-filled,
   needs,

@@ -3,13 +3,10 @@ use Prim.Native.Nat.{ℕ, _<_}
 use mathlib.Core.Path.{_≡_, refl}
 use lib.ListN.{length}
 use lib.Seq.{getD-set-same, getD-set-other}
-use Rattle.lifted_map.specs.Lift.{Lifted}
 use Rattle.records.specs.declared.Process.{Process}
 use Rattle.records.specs.declared.Namespace.{Namespace}
-use Rattle.records.specs.declared.Kind.{Kind}
-use Rattle.records.specs.declared.Kind.the-variants.{User, Group}
 use Rattle.records.specs.Records.{freeProcess, freeNamespace}
-use Rattle.tables.specs.Tables.{State, processAt, namespaceAt, liftedMaps, noLift, liftedAt, putProcess, putNamespace, putLiftedMap}
+use Rattle.tables.specs.Tables.{State, processAt, namespaceAt, putProcess, putNamespace}
 
 module _ (s : State) (i : ℕ) (p : Process) where
   pub process-stored : i < length (s .processes) → processAt (putProcess s i p) i ≡ p
@@ -37,14 +34,3 @@ module _ (s : State) (i : ℕ) (n : Namespace) where
   pub namespace-apart : (j : ℕ) → processAt (putNamespace s i n) j ≡ processAt s j
   unfolding processAt
   namespace-apart j = refl
-
-module _ (s : State) (i : ℕ) (m : Lifted) where
-  pub lifted-map-stored : (k : Kind) → i < length (liftedMaps k s) → liftedAt (putLiftedMap s k i m) k i ≡ m
-  unfolding liftedAt
-  lifted-map-stored User h = getD-set-same (s .liftedUsers) i m noLift h
-  lifted-map-stored Group h = getD-set-same (s .liftedGroups) i m noLift h
-
-  pub lifted-map-kept : (k : Kind) (j : ℕ) → (j ≡ i → ⊥) → liftedAt (putLiftedMap s k i m) k j ≡ liftedAt s k j
-  unfolding liftedAt
-  lifted-map-kept User j h = getD-set-other (s .liftedUsers) i j m noLift h
-  lifted-map-kept Group j h = getD-set-other (s .liftedGroups) i j m noLift h

@@ -1,21 +1,17 @@
 // The tables as they are at the start.
 ghost use mathlib.Core.Path.{_≡_};
-ghost use Rattle.lifted_map.specs.Lift.{liftedIn};
-ghost use Rattle.tables.specs.Tables.{tablesOf, firstProcess, fixedMap, fixedLift, rootNamespace, firstLiftedMaps, initialTables, withProcesses, withNamespaces, withLiftedMaps};
+ghost use Rattle.tables.specs.Tables.{tablesOf, firstProcess, fixedMap, rootNamespace, initialTables, withProcesses, withNamespaces};
 use crate::NAMESPACE_PLACES;
 use crate::PROCESS_PLACES;
 use crate::Tables;
-use crate::lifted_maps::lifted_map_put;
 use crate::namespaces::namespace_put;
 use crate::processes::process_put;
 use capability::CapabilitySet;
 use idmap::Line;
+use idmap::MAX_LINES;
 use idmap::NO_ID;
 use idmap::NO_LINE;
-use lifted_map::LIFTED_WIDTH;
-use lifted_map::LiftedMap;
 use records::IdMap;
-use records::Kind;
 use records::MapState;
 use records::NO_GROUPS;
 use records::Namespace;
@@ -49,6 +45,7 @@ fn fixed_map() -> IdMap
     IdMap {
         state: MapState::Written(1),
         lines: [fixed, NO_LINE, NO_LINE, NO_LINE, NO_LINE],
+        kernel: [0; MAX_LINES],
     }
 }
 
@@ -91,33 +88,10 @@ fn fill_namespaces(t: &mut Tables)
     namespace_put(t, 0, root_namespace());
 }
 
-fn fixed_lifted_map() -> LiftedMap
-    ensures { λ r. ⌜ liftedIn r ≡ fixedLift ⌝ }
-{
-    let mut map: LiftedMap = [0; LIFTED_WIDTH];
-    map[0] = 1;
-    map[4] = NO_ID as u64;
-    map
-}
-
-// No lifted map of a kind but the initial namespace's.
-fn fill_lifted_maps(t: &mut Tables, kind: Kind)
-    ensures { λ r. ⌜ tablesOf (now (t .exit)) ≡ withLiftedMaps (tablesOf (now (t .entry))) kind firstLiftedMaps ⌝ }
-{
-    let none: LiftedMap = [0; LIFTED_WIDTH];
-    for i in 0..NAMESPACE_PLACES {
-        lifted_map_put(t, kind, i, &none);
-    }
-    let fixed = fixed_lifted_map();
-    lifted_map_put(t, kind, 0, &fixed);
-}
-
 // The initial tables, whatever stood in the array.
 pub fn initial(t: &mut Tables)
     ensures { λ r. ⌜ tablesOf (now (t .exit)) ≡ initialTables ⌝ }
 {
     fill_processes(t);
     fill_namespaces(t);
-    fill_lifted_maps(t, Kind::User);
-    fill_lifted_maps(t, Kind::Group);
 }

@@ -3,11 +3,9 @@
 pub mod answer;
 pub mod find;
 pub mod initial;
-pub mod lifted_maps;
 pub mod namespaces;
 pub mod processes;
 
-use lifted_map::LIFTED_WIDTH;
 use records::namespaces::NAMESPACE_WIDTH;
 use records::processes::PROCESS_WIDTH;
 
@@ -19,16 +17,12 @@ pub const NAMESPACE_PLACES: usize = 64;
 // The highest level that a namespace has.
 pub const MAX_LEVEL: u64 = 32;
 
-// Where the tables start in the array: the processes, the namespaces, their lifted maps of users and those of groups.
+// Where the tables start in the array: the processes, then the namespaces.
 const PROCESSES_AT: usize = 0;
 
 const NAMESPACES_AT: usize = PROCESSES_AT + PROCESS_PLACES * PROCESS_WIDTH;
 
-const LIFTED_USERS_AT: usize = NAMESPACES_AT + NAMESPACE_PLACES * NAMESPACE_WIDTH;
-
-const LIFTED_GROUPS_AT: usize = LIFTED_USERS_AT + NAMESPACE_PLACES * LIFTED_WIDTH;
-
-// The words of all of them.
-pub const TABLES_WIDTH: usize = LIFTED_GROUPS_AT + NAMESPACE_PLACES * LIFTED_WIDTH;
+// The words of both.
+pub const TABLES_WIDTH: usize = NAMESPACES_AT + NAMESPACE_PLACES * NAMESPACE_WIDTH;
 
 pub type Tables = [u64; TABLES_WIDTH];

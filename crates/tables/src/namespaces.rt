@@ -1,7 +1,6 @@
 // The namespace table.
 ghost use mathlib.Core.Path.{_≡_};
-ghost use Rattle.idmap.specs.Line.{linesIn};
-ghost use Rattle.records.specs.Records.{mapIn, linesOf};
+ghost use Rattle.records.specs.Records.{mapIn, LinesOf};
 ghost use Rattle.tables.specs.Tables.{tablesOf, namespaceAt, putNamespace};
 use crate::NAMESPACE_PLACES;
 use crate::NAMESPACES_AT;
@@ -37,9 +36,9 @@ pub fn namespace_put(t: &mut Tables, place: usize, n: Namespace)
     }
 }
 
-// The written lines of a namespace's map of a kind, as the words that hold them where they stand.
+// The written lines of a namespace's map of a kind and their kernel starts, as the words that hold them where they stand.
 pub fn map_lines(t: &Tables, place: usize, kind: Kind) -> &[u64]
-    ensures { λ r. ⌜ linesIn (now r) ≡ linesOf (mapIn kind (namespaceAt (tablesOf (now (t .entry))) place)) ⌝ }
+    ensures { λ r. ⌜ LinesOf (now r) (mapIn kind (namespaceAt (tablesOf (now (t .entry))) place)) ⌝ }
 {
     if NAMESPACE_PLACES <= place {
         return rows::get(t, 0, 0);

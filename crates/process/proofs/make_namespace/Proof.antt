@@ -8,5 +8,4 @@ make-namespace-spec =
     tie.close (tie.spec
     (λ c κs. search helpers)  -- child-namespace-requires
     (λ c κs. search helpers)  -- namespace-put-requires
-    (λ c κs. search helpers)  -- lifted-maps-clear-requires
     (λ c. search helpers))  -- returns

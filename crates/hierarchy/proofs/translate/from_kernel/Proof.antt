@@ -6,7 +6,8 @@ use Rattle.hierarchy.proofs.translate.from_kernel.Tie as tie
 pub from-kernel-spec : {M : Type 1} → statement M
 from-kernel-spec =
     tie.close (tie.spec
-    (λ c κs. search translations)  -- lifted-lines-requires
-    (λ c κs. search translations)  -- lifted-base-requires
-    (λ c κs. search translations)  -- from-kernel-by-requires
-    (λ c. search translations))  -- returns
+    (λ c κs. search translations)  -- itself-requires
+    (λ c. search translations)  -- returns
+    (λ c κs. search translations)  -- map-lines-requires
+    (λ c κs. search translations)  -- lookup-inside-requires
+    (λ c. search translations))  -- returns-2

@@ -7,7 +7,7 @@ use Rattle.prelude.specs.Parts.{putAt}
 use Rattle.idmap.specs.Good.{maxLines}
 use Rattle.idmap.specs.Show.{linesText}
 use Rattle.tables.specs.Tables.{tablesOf}
-use Rattle.hierarchy.specs.Lifted.{byLiftedMaps}
+use Rattle.hierarchy.specs.KernelStarts.{byKernelStarts}
 use Rattle.mapping.specs.Calls.{shownLine}
 use Rattle.mapping.proofs.Reading.{reading}
 use Rattle.mapping.proofs.read.put_lines.Statement.{statement}
@@ -16,7 +16,7 @@ use Rattle.mapping.proofs.read.put_lines.Tie as tie
 abbrev Inv-loop : tie.InvT-loop
 Inv-loop t kind n v count buffer₀ lines i₀ buffer i =
     (i ≤ count) × (length lines ≡ maxLines) × (length buffer ≡ length buffer₀)
-    × (buffer ≡ putAt buffer₀ 0 (linesText (map (shownLine (byLiftedMaps (tablesOf t)) (tablesOf t) kind n v) (take i lines))))
+    × (buffer ≡ putAt buffer₀ 0 (linesText (map (shownLine (byKernelStarts (tablesOf t)) (tablesOf t) kind n v) (take i lines))))
 
 abbrev μ-loop : tie.MeasureT-loop
 μ-loop t kind n v count buffer₀ lines i₀ buffer i = count - i

@@ -8,21 +8,22 @@ pub map-words-spec : {M : Type 1} → statement M
 map-words-spec =
     tie.close (tie.spec
     (λ c. search records)  -- array-copy-out-line-words
+    (λ c. search records)  -- array-read-line-words
     (λ c κs. search records)  -- line-words-requires
     (λ c. search records)  -- array-copy-out-line-words-2
+    (λ c. search records)  -- array-read-line-words-2
     (λ c κs. search records)  -- line-words-requires-2
     (λ c. search records)  -- array-copy-out-line-words-3
+    (λ c. search records)  -- array-read-line-words-3
     (λ c κs. search records)  -- line-words-requires-3
     (λ c. search records)  -- array-copy-out-line-words-4
+    (λ c. search records)  -- array-read-line-words-4
     (λ c κs. search records)  -- line-words-requires-4
     (λ c. search records)  -- array-copy-out-line-words-5
+    (λ c. search records)  -- array-read-line-words-5
     (λ c κs. search records)  -- line-words-requires-5
     (λ c κs. search records)  -- state-tag-requires
     (λ c κs. search records)  -- state-count-requires
-    (λ c. search records)  -- array-read-t25
-    (λ c. search records)  -- array-read-t28
-    (λ c. search records)  -- array-read-t31
-    (λ c. search records)  -- array-read-t34
     (λ c. search records)  -- array-read-t37
     (λ c. search records)  -- array-read-t40
     (λ c. search records)  -- array-read-t43
@@ -34,4 +35,13 @@ map-words-spec =
     (λ c. search records)  -- array-read-t61
     (λ c. search records)  -- array-read-t64
     (λ c. search records)  -- array-read-t67
+    (λ c. search records)  -- array-read-t70
+    (λ c. search records)  -- array-read-t73
+    (λ c. search records)  -- array-read-t76
+    (λ c. search records)  -- array-read-t79
+    (λ c. search records)  -- array-read-t82
+    (λ c. search records)  -- array-read-t85
+    (λ c. search records)  -- array-read-t88
+    (λ c. search records)  -- array-read-t91
+    (λ c. search records)  -- array-read-t94
     (λ c. search (records, length-mapped)))  -- returns

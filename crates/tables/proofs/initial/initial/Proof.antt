@@ -8,6 +8,4 @@ initial-spec =
     tie.close (tie.spec
     (λ c κs. search filling)  -- fill-processes-requires
     (λ c κs. search filling)  -- fill-namespaces-requires
-    (λ c κs. search filling)  -- fill-lifted-maps-requires
-    (λ c κs. search filling)  -- fill-lifted-maps-requires-2
     (λ c. search filling))  -- returns

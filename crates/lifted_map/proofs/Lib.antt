@@ -1,4 +1,0 @@
-pub mod Places
-pub mod Adding
-pub mod Pieces
-pub mod Composition
