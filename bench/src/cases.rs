@@ -2,13 +2,13 @@
 
 use std::hint::black_box;
 
-use oarhatchet::{Kind, Way, CAP_LAST_CAP, CAP_SYS_ADMIN};
+use oarhatchet::{Kind, Way, CAP_SYS_ADMIN};
 use reference::random::Random;
 use reference::{Answer, Call, Direction};
 
 use crate::kernel;
 use crate::measure::time;
-use crate::state::{self, State, FIVE_BELOW, FIVE_LINES, ONE_LINE};
+use crate::state::{self, State, FIVE_BELOW, FIVE_LINES, FULL, ONE_LINE};
 use crate::table::{Kernel, Row};
 
 /// Goals in nanoseconds: of a call, of a read or write of a map, and of a translation through at most eight levels.
@@ -19,18 +19,19 @@ const TRANSLATION: f64 = 100.0;
 /// Calls in a batch, where a call can be repeated in the state that it leaves.
 const REPEATED: usize = 500;
 /// Calls in a batch, where each has a process or a namespace of its own.
-const ONCE: usize = 32;
+pub const ONCE: usize = 32;
 
 /// The root of the first namespace of the common state, and that namespace.
 const ROOT: u64 = 2;
 const NAMESPACE: u64 = 1;
-/// The set of all capabilities.
-const FULL: u64 = (1 << (CAP_LAST_CAP + 1)) - 1;
 /// The bytes of five lines of a map that is read, and of the setgroups setting with some to spare.
 const MAP_BUFFER: usize = 5 * 33;
 const SETTING_BUFFER: usize = 8;
 /// The deepest level that there is.
-const LAST_LEVEL: u64 = 32;
+pub const LAST_LEVEL: u64 = 32;
+/// The kinds of IDs, as the bindings and as the reference program name them.
+pub const USERS: (Kind, reference::Kind) = (Kind::User, reference::Kind::User);
+pub const GROUPS: (Kind, reference::Kind) = (Kind::Group, reference::Kind::Group);
 
 /// Times one call on both implementations. `calls` are those of a batch, and `call` makes the one of a number through
 /// the bindings and answers whether it is done.
@@ -86,92 +87,101 @@ pub fn rows() -> Vec<Row> {
     rows
 }
 
+/// The state with forks of the caller, and these.
+pub fn with_forks(mut state: State, caller: u64) -> (State, Vec<u64>) {
+    let forks = (0..ONCE).map(|_| state.fork(caller)).collect();
+    (state, forks)
+}
+
+pub fn fork(name: &str, state: &State, caller: u64, kernel: Kernel) -> Row {
+    let calls = vec![Call::Fork { caller }; ONCE];
+    row(name, CALL, state, kernel, calls, |t, _| t.fork(caller).is_ok())
+}
+
+pub fn clone(name: &str, state: &State, caller: u64, kernel: Kernel) -> Row {
+    let calls = vec![Call::Clone { caller }; ONCE];
+    row(name, CALL, state, kernel, calls, |t, _| t.clone_process(caller).is_ok())
+}
+
+pub fn unshare(name: &str, state: &State, callers: &[u64], kernel: Kernel) -> Row {
+    let calls = for_each(callers, |caller| Call::Unshare { caller });
+    row(name, CALL, state, kernel, calls, |t, i| t.unshare(callers[i]).is_ok())
+}
+
+pub fn setns(name: &str, state: &State, callers: &[u64], namespace: u64, kernel: Kernel) -> Row {
+    let calls = for_each(callers, |caller| Call::Setns { caller, namespace });
+    row(name, CALL, state, kernel, calls, |t, i| t.setns(callers[i], namespace).is_ok())
+}
+
 fn processes() -> Vec<Row> {
     let common = State::common();
-    let mut forked = common.clone();
-    let members: Vec<u64> = (0..ONCE).map(|_| forked.fork(ROOT)).collect();
-    let mut joining = common.clone();
-    let outside: Vec<u64> = (0..ONCE).map(|_| joining.fork(1)).collect();
+    let (forked, members) = with_forks(common.clone(), ROOT);
+    let (joining, outside) = with_forks(common.clone(), 1);
     vec![
-        row(
-            "fork",
-            CALL,
-            &common,
-            Kernel::of(kernel::fork_process()),
-            vec![Call::Fork { caller: ROOT }; ONCE],
-            |t, _| t.fork(ROOT).is_ok(),
-        ),
-        row(
-            "clone",
-            CALL,
-            &common,
-            Kernel::of(kernel::clone_process()),
-            vec![Call::Clone { caller: ROOT }; ONCE],
-            |t, _| t.clone_process(ROOT).is_ok(),
-        ),
-        row(
-            "unshare",
-            CALL,
-            &forked,
-            Kernel::of(kernel::unshare_user()),
-            for_each(&members, |caller| Call::Unshare { caller }),
-            |t, i| t.unshare(members[i]).is_ok(),
-        ),
-        row(
-            "setns",
-            CALL,
-            &joining,
-            Kernel::of(kernel::join()),
-            for_each(&outside, |caller| Call::Setns { caller, namespace: NAMESPACE }),
-            |t, i| t.setns(outside[i], NAMESPACE).is_ok(),
-        ),
+        fork("fork", &common, ROOT, Kernel::of(kernel::fork_process())),
+        clone("clone", &common, ROOT, Kernel::of(kernel::clone_process())),
+        unshare("unshare", &forked, &members, Kernel::of(kernel::unshare_user())),
+        setns("setns", &joining, &outside, NAMESPACE, Kernel::of(kernel::join())),
     ]
 }
 
 /// The state with new namespaces below the caller's, and the process in each.
-fn with_unmapped(mut state: State, caller: u64) -> (State, Vec<u64>) {
+pub fn with_unmapped(mut state: State, caller: u64) -> (State, Vec<u64>) {
     let members = (0..ONCE).map(|_| state.clone_process(caller).0).collect();
     (state, members)
 }
 
-fn write_map(name: &str, state: State, caller: u64, text: &str, kernel: Kernel) -> Row {
-    let (state, members) = with_unmapped(state, caller);
-    let calls = for_each(&members, |process| Call::WriteMap {
+pub fn write_map(
+    name: &str,
+    state: &State,
+    caller: u64,
+    members: &[u64],
+    text: &str,
+    kernel: Kernel,
+) -> Row {
+    let calls = for_each(members, |process| Call::WriteMap {
         kind: reference::Kind::User,
         caller,
         process,
         text: text.as_bytes().to_vec(),
     });
-    row(name, MAP, &state, kernel, calls, |t, i| {
+    row(name, MAP, state, kernel, calls, |t, i| {
         t.write_map(Kind::User, caller, members[i], text.as_bytes()).is_ok()
     })
 }
 
-fn writes() -> Vec<Row> {
-    let (state, members) = with_unmapped(State::common(), 1);
-    let denials = for_each(&members, |process| Call::WriteSetgroups {
-        caller: 1,
+pub fn write_setgroups(
+    name: &str,
+    state: &State,
+    caller: u64,
+    members: &[u64],
+    kernel: Kernel,
+) -> Row {
+    let calls = for_each(members, |process| Call::WriteSetgroups {
+        caller,
         process,
         text: b"deny".to_vec(),
     });
+    row(name, CALL, state, kernel, calls, |t, i| {
+        t.write_setgroups(caller, members[i], b"deny").is_ok()
+    })
+}
+
+fn writes() -> Vec<Row> {
+    let (common, members) = with_unmapped(State::common(), 1);
+    let (deep, below) = with_unmapped(State::deep(8), 9);
     let one = Kernel::of(kernel::write_map(ONE_LINE));
     let five = Kernel::of(kernel::write_map(FIVE_LINES));
+    let setting = Kernel::of(kernel::write_setgroups());
     vec![
-        write_map("write_map, 1 line", State::common(), 1, ONE_LINE, one),
-        write_map("write_map, 5 lines", State::common(), 1, FIVE_LINES, five),
-        write_map("write_map, 5 lines, level 9", State::deep(8), 9, FIVE_BELOW, Kernel::None),
-        row(
-            "write_setgroups",
-            CALL,
-            &state,
-            Kernel::of(kernel::write_setgroups()),
-            denials,
-            |t, i| t.write_setgroups(1, members[i], b"deny").is_ok(),
-        ),
+        write_map("write_map, 1 line", &common, 1, &members, ONE_LINE, one),
+        write_map("write_map, 5 lines", &common, 1, &members, FIVE_LINES, five),
+        write_map("write_map, 5 lines, level 9", &deep, 9, &below, FIVE_BELOW, Kernel::None),
+        write_setgroups("write_setgroups", &common, 1, &members, setting),
     ]
 }
 
-fn read_map(name: &str, state: &State, caller: u64, process: u64, kernel: Kernel) -> Row {
+pub fn read_map(name: &str, state: &State, caller: u64, process: u64, kernel: Kernel) -> Row {
     let buffer = vec![0; MAP_BUFFER];
     let call = Call::ReadMap { kind: reference::Kind::User, caller, process, buffer };
     row(name, MAP, state, kernel, repeated(call), |t, _| {
@@ -182,88 +192,83 @@ fn read_map(name: &str, state: &State, caller: u64, process: u64, kernel: Kernel
     })
 }
 
+pub fn read_setgroups(name: &str, state: &State, caller: u64, process: u64, kernel: Kernel) -> Row {
+    let call = Call::ReadSetgroups { caller, process, buffer: vec![0; SETTING_BUFFER] };
+    row(name, CALL, state, kernel, repeated(call), |t, _| {
+        let mut buffer = [0; SETTING_BUFFER];
+        let done = t.read_setgroups(caller, process, &mut buffer).is_ok();
+        black_box(buffer);
+        done
+    })
+}
+
 fn reads() -> Vec<Row> {
     let common = State::common();
     let one = Kernel::of(kernel::read_map(ONE_LINE));
     let five = Kernel::of(kernel::read_map(FIVE_LINES));
-    let setting = Call::ReadSetgroups { caller: 1, process: ROOT, buffer: vec![0; SETTING_BUFFER] };
+    let setting = Kernel::of(kernel::read_setgroups());
     vec![
         read_map("read_map, 1 line", &common, 1, ROOT, one),
         read_map("read_map, 5 lines", &State::deep(1), 1, 2, five),
         read_map("read_map, 5 lines, level 8, from level 8", &State::deep(8), 9, 9, Kernel::None),
-        row(
-            "read_setgroups",
-            CALL,
-            &common,
-            Kernel::of(kernel::read_setgroups()),
-            repeated(setting),
-            |t, _| {
-                let mut buffer = [0; SETTING_BUFFER];
-                let done = t.read_setgroups(1, ROOT, &mut buffer).is_ok();
-                black_box(buffer);
-                done
-            },
-        ),
+        read_setgroups("read_setgroups", &common, 1, ROOT, setting),
     ]
 }
 
-/// An ID change whose saved ID is another at each call.
-fn set_ids(
+/// Root's IDs, with a saved one that is another at each call.
+fn saved_changes(index: usize) -> [u32; 3] {
+    [0, 0, kernel::saved(index)]
+}
+
+/// ID changes, each to the IDs of its number in the batch.
+pub fn set_ids(
     name: &str,
     state: &State,
     kinds: (Kind, reference::Kind),
     caller: u64,
+    ids: impl Fn(usize) -> [u32; 3],
     kernel: Kernel,
 ) -> Row {
-    let ids = |index| [0, 0, kernel::saved(index)];
     let call = |index| Call::SetIds { kind: kinds.1, caller, ids: ids(index) };
     let calls = (0..REPEATED).map(call).collect();
     row(name, CALL, state, kernel, calls, |t, i| t.set_ids(kinds.0, caller, ids(i)).is_ok())
 }
 
-fn set_groups(name: &str, state: &State, caller: u64, groups: &[u32], kernel: Kernel) -> Row {
+pub fn set_groups(name: &str, state: &State, caller: u64, groups: &[u32], kernel: Kernel) -> Row {
     let call = Call::Setgroups { caller, groups: groups.to_vec() };
     row(name, CALL, state, kernel, repeated(call), |t, _| t.setgroups(caller, groups).is_ok())
+}
+
+pub fn capset(name: &str, state: &State, caller: u64, kernel: Kernel) -> Row {
+    let call = Call::Capset { caller, permitted: FULL, effective: FULL };
+    row(name, CALL, state, kernel, repeated(call), |t, _| t.capset(caller, FULL, FULL).is_ok())
 }
 
 fn credentials() -> Vec<Row> {
     let common = State::common();
     let deep = State::deep(8);
-    let users = (Kind::User, reference::Kind::User);
-    let groups = (Kind::Group, reference::Kind::Group);
+    let users = Kernel::of(kernel::set_users());
+    let groups = Kernel::of(kernel::set_groups());
     let four = [10, 11, 12, 13];
+    let sixteen = state::sixteen_groups();
     let supplementary = Kernel::of(kernel::set_supplementary(&four));
-    let sets = Call::Capset { caller: ROOT, permitted: FULL, effective: FULL };
     vec![
-        set_ids("setresuid", &common, users, ROOT, Kernel::of(kernel::set_users())),
-        set_ids("setresgid", &common, groups, ROOT, Kernel::of(kernel::set_groups())),
-        set_ids("setresuid, 8 levels", &deep, users, 9, Kernel::None),
+        set_ids("setresuid", &common, USERS, ROOT, saved_changes, users),
+        set_ids("setresgid", &common, GROUPS, ROOT, saved_changes, groups),
+        set_ids("setresuid, 8 levels", &deep, USERS, 9, saved_changes, Kernel::None),
         set_groups("setgroups, 4 groups", &common, ROOT, &four, supplementary),
-        set_groups(
-            "setgroups, 16 groups, 8 levels",
-            &deep,
-            9,
-            &state::sixteen_groups(),
-            Kernel::None,
-        ),
-        row(
-            "capset",
-            CALL,
-            &common,
-            Kernel::of(kernel::set_capabilities()),
-            repeated(sets),
-            |t, _| t.capset(ROOT, FULL, FULL).is_ok(),
-        ),
+        set_groups("setgroups, 16 groups, 8 levels", &deep, 9, &sixteen, Kernel::None),
+        capset("capset", &common, ROOT, Kernel::of(kernel::set_capabilities())),
     ]
 }
 
-fn own_ids(name: &str, state: &State, caller: u64, kernel: Kernel) -> Row {
+pub fn own_ids(name: &str, state: &State, caller: u64, kernel: Kernel) -> Row {
     row(name, CALL, state, kernel, repeated(Call::GetIds { caller }), |t, _| {
         black_box(t.getids(caller)).is_ok()
     })
 }
 
-fn capable(name: &str, state: &State, namespace: u64) -> Row {
+pub fn capable(name: &str, state: &State, namespace: u64) -> Row {
     let call = Call::Capable { caller: 1, namespace, number: CAP_SYS_ADMIN };
     row(name, CALL, state, Kernel::None, repeated(call), |t, _| {
         black_box(t.capable(1, namespace, CAP_SYS_ADMIN)).is_ok()

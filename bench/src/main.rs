@@ -6,12 +6,14 @@ mod kernel;
 mod measure;
 mod state;
 mod table;
+mod worst;
 
 /// Every call is measured in each round, so that what else the machine does for a moment touches few of a call's times.
 const ROUNDS: usize = 15;
 
 fn main() {
-    let rounds: Vec<Vec<table::Row>> = (0..ROUNDS).map(|_| cases::rows()).collect();
+    let round = |_| cases::rows().into_iter().chain(worst::rows()).collect();
+    let rounds: Vec<Vec<table::Row>> = (0..ROUNDS).map(round).collect();
     table::print(&table::medians(&rounds));
     if let Ok(load) = std::fs::read_to_string("/proc/loadavg") {
         println!("load average: {}", load.trim());

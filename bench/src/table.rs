@@ -112,7 +112,7 @@ pub fn medians(rounds: &[Vec<Row>]) -> Vec<Row> {
     (0..rounds[0].len()).map(row).collect()
 }
 
-/// Prints the table and how many rows miss a goal.
+/// Prints the table, how many rows miss a goal and which are the worst states.
 pub fn print(rows: &[Row]) {
     println!(
         "| {:<43} | {:>7} | {:>10} | {:>9} | {:>5} | {:>7} | {:>5} | {:>9} |",
@@ -127,4 +127,8 @@ pub fn print(rows: &[Row]) {
     }
     let missed = rows.iter().filter(|row| !row.misses().is_empty()).count();
     println!("\n{} rows, of which {missed} miss a goal", rows.len());
+    println!(
+        "rows that end in 'worst', and translations through 32 levels, are in the worst states that \
+         calls can make"
+    );
 }

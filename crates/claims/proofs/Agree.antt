@@ -8,7 +8,6 @@ use lib.Dec.{eqb}
 use lib.ListN.{length, length-set}
 use borrow.Author.Tests.{eqb-true}
 use Rattle.idmap.specs.declared.Line.{Line}
-use Rattle.lifted_map.specs.Lift.{Lifted}
 use Rattle.records.specs.declared.Kind.{Kind}
 use Rattle.records.specs.declared.Kind.the-variants.{Group}
 use Rattle.records.specs.declared.Process.{Process}
@@ -93,23 +92,6 @@ module _ (s : State) (isP isN : ℕ → Bool) (place up level : ℕ → ℕ) (ma
       namespace-map = λ k i. after-namespace (λ (r : Namespace). writtenIn (mapIn k r)) (maps k) i (a .namespace-map k i) ∙ m k i;
       namespace-state = λ k i. after-namespace (λ (r : Namespace). mapIn k r .state) (λ (j : ℕ). stateFor (maps k j)) i (a .namespace-state k i) ∙ o k i;
     }
-
-  -- what the code keeps beside the maps does not matter
-  pub keeps-tables : (us gs : List Lifted) → Agrees (record { processes = s .processes; namespaces = s .namespaces; liftedUsers = us; liftedGroups = gs }) isP isN place up level maps carries
-  unfolding processAt namespaceAt
-  keeps-tables us gs = record {
-    process-places = a .process-places;
-    namespace-places = a .namespace-places;
-    process-live = a .process-live;
-    process-place = a .process-place;
-    process-ids = a .process-ids;
-    process-count = a .process-count;
-    namespace-live = a .namespace-live;
-    namespace-parent = a .namespace-parent;
-    namespace-level = a .namespace-level;
-    namespace-map = a .namespace-map;
-    namespace-state = a .namespace-state;
-  }
 
 -- ---- a map's record has the lines of its history
 lines-of : (m : IdMap) → orNone (writtenIn m) ≡ linesOf m

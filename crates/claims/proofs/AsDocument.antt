@@ -1,4 +1,4 @@
--- On tables that calls leave, translation by lifted maps and ranges by a lookup's count are the papers', so that the
+-- On tables that calls leave, translation by kernel starts and ranges by a lookup's count are the papers', so that the
 -- code's steps, runs and histories are those of the papers. Assumes nothing.
 use mathlib.Core.Path.{_≡_, refl, ap, _∙_}
 use mathlib.Core.List.{List, [], _∷_}
@@ -10,12 +10,12 @@ use Rattle.claims.specs.Translation.{byLevels}
 use Rattle.claims.specs.History.{Entry, entryOf, stepOf, runFrom, historyFrom, run, history, events, AllFit}
 use Rattle.claims.specs.AsDocument.{AsDocument}
 use Rattle.claims.proofs.Allowed.{sound}
-use Rattle.claims.proofs.Translating.{lifts, same-translation}
+use Rattle.claims.proofs.Translating.{same-translation}
 use Rattle.claims.proofs.Theorem.{Reached, start, step, reached}
 
 module _ (s : State) (h : List Entry) (a : Reached s h) where
   same-at : byKernelStarts s ≡ byLevels s
-  same-at = same-translation s (events h) (a .agree) (sound (events h) (a .valid)) (a .beside) (lifts (events h) (a .valid))
+  same-at = same-translation s (events h) (a .agree) (sound (events h) (a .valid)) (a .beside)
 
   same-step : (r : Request) → stepOf byKernelStarts s r ≡ stepOf byLevels s r
   same-step r = ap (λ (by : Translation). answerOf by s r) same-at

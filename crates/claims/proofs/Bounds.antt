@@ -39,41 +39,21 @@ use Rattle.claims.specs.Bounds.{HoldsCapability, member, inherited, owne
 use Rattle.claims.specs.Agreement.{stateFor, Agreed}
 use Rattle.claims.proofs.Sound.{Counted}
 use Rattle.claims.proofs.Allowed.{SoundAt, sound}
+use Rattle.claims.proofs.Levels.{nothing-out, nothing-back}
+use Rattle.claims.proofs.KernelStarts.{whole-each}
 use Rattle.claims.proofs.Carried.{held-small, few-groups}
 use Rattle.claims.proofs.Agree.{lines-agree}
 use Rattle.claims.proofs.Stores.{process-in-range, namespace-in-range}
 use Rattle.claims.proofs.Translating.{levels-history}
 use Rattle.claims.proofs.Theorem.{reached, by-history}
 
--- ---- through no lines nothing is found
-module _ (up : ℕ → ℕ) (lines : ℕ → List Line) where
-  nothing-out : (f n x : ℕ) → (n ≡ 0 → ⊥) → lines n ≡ [] → outBy up lines f n x ≡ Unmapped
-  unfolding outBy out
-  nothing-out zero n x z e = rw (ne-eqb n 0 z)
-  nothing-out (suc f) n x z e = rw (ne-eqb n 0 z, e)
-
-  none-then : (t : Translated) → thenId t (λ z. back [] z) ≡ Unmapped
-  unfolding out
-  none-then (Id z) = refl
-  none-then Unmapped = refl
-
-  nothing-back : (f n y : ℕ) → (n ≡ 0 → ⊥) → lines n ≡ [] → backBy up lines f n y ≡ Unmapped
-  unfolding backBy
-  nothing-back zero n y z e = rw (ne-eqb n 0 z)
-  nothing-back (suc f) n y z e = rw (ne-eqb n 0 z, e) (none-then (backBy up lines f (up n) y))
-
 -- ---- an ID on the parent side of lines that lie whole in one line above has that line
-line-covered : (above ls : List Line) (i z : ℕ) → allWhole (liesWhole above) ls ≡ true → i < length ls → Within z (getD ls i noLine .parent) (getD ls i noLine .count) → HasLine above z
-unfolding allWhole
-line-covered above [] i z e h w = absurd (omega arith)
-line-covered above (l ∷ ls) zero z e h w = whole-has-line above (l .parent) (l .count) z (and-left (liesWhole above (l .parent) (l .count)) (allWhole (liesWhole above) ls) e) w
-line-covered above (l ∷ ls) (suc i) z e h w = line-covered above ls i z (and-right (liesWhole above (l .parent) (l .count)) (allWhole (liesWhole above) ls) e) (le-of-suc-le-suc h) w
-
 parent-covered : (above ls : List Line) (z : ℕ) → allWhole (liesWhole above) ls ≡ true → OnParentSide ls z → HasLine above z
 parent-covered above ls z e (x, p) =
     let q = p .parent-is in
     let b = p .below-count in
-    line-covered above ls (p .which) z e (p .in-range) (omega arith, omega arith)
+    let l = getD ls (p .which) noLine in
+    whole-has-line above (l .parent) (l .count) z (whole-each above ls (p .which) e (p .in-range)) (omega arith, omega arith)
 
 module _ (s : State) (h : List Event) (a : Agreed s h) (d : SoundAt h) where
   -- the tables' own levels and parents

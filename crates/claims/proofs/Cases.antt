@@ -131,7 +131,7 @@ module _ (by : Translation) (s : State) (P : Outcome → Type 0) (no : (e : ℕ)
   pub write-map-case : (k : Kind) (c name : ℕ) (text : List ℕ)
       → ((p : ℕ) (ls : List Line) → callerNamed s name ≡ At p → isWritten (mapIn k (namespaceAt s (processAt s p .namespace)) .state) ≡ false → mapLines text ≡ some ls
       → allWhole (by .whole k (namespaceAt s (processAt s p .namespace) .parent)) ls ≡ true
-      → P (record { reply = done; tables = mappedTables s k (processAt s p .namespace) ls }))
+      → P (record { reply = done; tables = mappedTables by s k (processAt s p .namespace) ls }))
       → P (writeMapOf by s k c name text)
   unfolding writeMapOf writeMapTo writeLinesTo
   write-map-case k c name text f =

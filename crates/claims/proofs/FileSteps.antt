@@ -3,18 +3,19 @@
 use Prim.Native.Nat.{ℕ, _-_, _<_}
 use mathlib.Core.Path.{_≡_, refl, sym, ap, _∙_, subst}
 use mathlib.Core.Bool.{Bool, true, false, cond, _&&_, true≢false}
-use mathlib.Core.List.{List}
+use mathlib.Core.List.{List, [], _∷_, _++_, map}
 use mathlib.Core.Option.{none, some}
 use native.Mathlib.Omega.{arith}
 use lib.Dec.{eqb}
 use lib.ListN.{length, replicate}
 use lib.Seq.{take-append-seam}
+use borrow.Author.Tests.{eqb-true}
 use Rattle.idmap.specs.declared.Line.{Line}
 use Rattle.idmap.specs.Line.{noLine}
-use Rattle.idmap.specs.Good.{maxLines}
+use Rattle.idmap.specs.Good.{maxLines, goodOf}
+use Rattle.idmap.specs.Lookup.{orNoId}
 use Rattle.idmap.specs.Ranges.{liesWhole}
 use Rattle.idmap.specs.Text.{mapLines, padded}
-use Rattle.lifted_map.specs.Lift.{liftedOf}
 use Rattle.records.specs.declared.Kind.{Kind}
 use Rattle.records.specs.declared.Kind.the-variants.{User, Group}
 use Rattle.records.specs.declared.Namespace.{Namespace}
@@ -23,24 +24,40 @@ use Rattle.records.specs.declared.MapState.the-variants.{Unwritten, Written}
 use Rattle.records.specs.declared.IdMap.{IdMap}
 use Rattle.records.specs.Records.{mapIn, isWritten}
 use Rattle.tables.specs.declared.find.Found.the-variants.{At}
-use Rattle.tables.specs.Tables.{State, processAt, namespaceAt, liftedAt, putNamespace}
+use Rattle.tables.specs.Tables.{State, processAt, namespaceAt, putNamespace}
 use Rattle.tables.specs.Find.{processNamed, callerNamed}
 use Rattle.hierarchy.specs.Walks.{Translation}
+use Rattle.hierarchy.specs.KernelStarts.{kernelStarts}
+use Rattle.idmap.proofs.Goodness.{good-first, good-others}
 use Rattle.mapping.specs.Calls.{allWhole, writtenMap, withMap, mappedTables, writeMapOf, withDeny, writeSetgroupsOf}
 use Rattle.calls.specs.declared.Call.the-variants.{WriteMap, WriteSetgroups}
 use Rattle.claims.specs.Events.{Event, other, mapped}
-use Rattle.claims.specs.Words.{isProcess, isNamespace, placeOf, parentOf, levelOf, writtenOf, writtenLines, heldOf, sameKind}
+use Rattle.claims.specs.Words.{isProcess, isNamespace, placeOf, parentOf, levelOf, writtenOf, writtenLines, standsFor, heldOf, sameKind}
 use Rattle.claims.specs.Agreement.{ifWritten, writtenIn, stateFor, Agreed}
-use Rattle.claims.specs.LiftedMaps.{liftedBy, liftOf}
-use Rattle.claims.proofs.Beside.{Beside, keeps-lifted, stores-lifted}
-use Rattle.claims.proofs.Allowed.{SoundAt}
+use Rattle.claims.specs.TopLevel.{OutOf}
+use Rattle.claims.proofs.Allowed.{Maps, SoundAt}
+use Rattle.claims.proofs.HistoryLevels.{is-stands}
+use Rattle.claims.proofs.Kept.{out-kept}
+use Rattle.claims.proofs.KernelStarts.{Started, started-kept, goes-out}
+use Rattle.claims.proofs.Beside.{StartsAt, startsIn, Beside, starts-kept, stores-beside}
 use Rattle.claims.proofs.Stores.{cond-ap, namespace-in-range}
-use Rattle.claims.proofs.Agree.{picked-same, stores-namespace, keeps-tables, caller-live, caller-place}
-use Rattle.claims.proofs.Sound.{Counted, map-lines-counted, none-whole, same-kind}
-use Rattle.prelude.proofs.Tests.{by-test, and-left}
+use Rattle.claims.proofs.Agree.{picked-same, stores-namespace, caller-live, caller-place}
+use Rattle.claims.proofs.Sound.{Counted, map-lines-good, map-lines-counted, none-whole, same-kind, deep}
+use Rattle.prelude.proofs.Tests.{by-test, and-left, and-right}
 use Rattle.claims.proofs.Steps.{Next, nothing-happened, After}
 use Rattle.claims.proofs.Translating.{byHistory}
 use Rattle.claims.proofs.Cases.{write-map-case, write-setgroups-case}
+
+-- ---- the parent starts of lines that lie whole in lines of namespace n stand for IDs, which the code keeps
+starts-stand : (h : List Event) → SoundAt h → (k : Kind) (n : ℕ) (ls : List Line) (rest : List ℕ) → allWhole (liesWhole (writtenLines k h n)) ls ≡ true → goodOf ls ≡ true
+    → Started (OutOf k h n) ls (map (λ (l : Line). orNoId (standsFor k h n (l .parent))) ls ++ rest)
+unfolding Started allWhole
+starts-stand h d k n [] rest w g = tt
+starts-stand h d k n (l ∷ ls) rest w g =
+    let first = liesWhole (writtenLines k h n) (l .parent) (l .count) in
+    let others = allWhole (liesWhole (writtenLines k h n)) ls in
+    let r = goes-out (parentOf h) (writtenLines k h) (d .good k) (d .whole k) (levelOf h) (deep _ _ _ _ _ _ d k) (levelOf h n) n (l .parent) (l .count) (omega arith) (good-first l ls g .some) (and-left first others w) in
+    (rw (is-stands h d k n (l .parent) (r .0) (r .1)) (r .1), starts-stand h d k n ls rest (and-right first others w) (good-others l ls g))
 
 -- ---- a namespace with a map, and with a setting
 map-live : (k : Kind) (n : Namespace) (m : IdMap) → withMap k n m .live ≡ n .live
@@ -64,9 +81,9 @@ deny-map User n b = refl
 deny-map Group n b = refl
 
 -- a map that is written with lines has them
-written-lines : (ls : List Line) → writtenIn (writtenMap ls) ≡ some ls
+written-lines : (ls : List Line) (starts : List ℕ) → writtenIn (writtenMap ls starts) ≡ some ls
 unfolding padded
-written-lines ls = ap some (take-append-seam ls (replicate (maxLines - length ls) noLine))
+written-lines ls starts = ap some (take-append-seam ls (replicate (maxLines - length ls) noLine))
 
 -- the lines of a text are some
 some-lines : (text : List ℕ) (ls : List Line) → mapLines text ≡ some ls → 0 < length ls
@@ -89,72 +106,98 @@ module _ (by : Translation) (s : State) (h : List Event) (a : Agreed s h) (b : B
     target-live = a .namespace-live (processAt s p .namespace) ∙ rw (caller-place s h a name p e) (d .placed name (caller-live s h a name p e))
 
     -- the maps after a write: those of the other kind and of other namespaces are as they were
-    maps-after : (j k : Kind) (ls : List Line) → mapLines text ≡ some ls → (i : ℕ)
-        → cond (eqb i (processAt s p .namespace)) (writtenIn (mapIn k (withMap j (namespaceAt s (processAt s p .namespace)) (writtenMap ls)))) (writtenOf k h i) ≡ cond (sameKind k j && eqb i (placeOf h name)) (mapLines text) (writtenOf k h i)
+    maps-after : (j k : Kind) (ls : List Line) (starts : List ℕ) → mapLines text ≡ some ls → (i : ℕ)
+        → cond (eqb i (processAt s p .namespace)) (writtenIn (mapIn k (withMap j (namespaceAt s (processAt s p .namespace)) (writtenMap ls starts)))) (writtenOf k h i) ≡ cond (sameKind k j && eqb i (placeOf h name)) (mapLines text) (writtenOf k h i)
     unfolding withMap
-    maps-after User User ls m i = rw (caller-place s h a name p e, m, written-lines ls)
-    maps-after Group Group ls m i = rw (caller-place s h a name p e, m, written-lines ls)
-    maps-after User Group ls m i = picked-same (writtenOf Group h) i (processAt s p .namespace) _ (a .namespace-map Group (processAt s p .namespace))
-    maps-after Group User ls m i = picked-same (writtenOf User h) i (processAt s p .namespace) _ (a .namespace-map User (processAt s p .namespace))
+    maps-after User User ls starts m i = rw (caller-place s h a name p e, m, written-lines ls starts)
+    maps-after Group Group ls starts m i = rw (caller-place s h a name p e, m, written-lines ls starts)
+    maps-after User Group ls starts m i = picked-same (writtenOf Group h) i (processAt s p .namespace) _ (a .namespace-map Group (processAt s p .namespace))
+    maps-after Group User ls starts m i = picked-same (writtenOf User h) i (processAt s p .namespace) _ (a .namespace-map User (processAt s p .namespace))
 
-    states-after : (j k : Kind) (ls : List Line) → mapLines text ≡ some ls → (i : ℕ)
-        → cond (eqb i (processAt s p .namespace)) (mapIn k (withMap j (namespaceAt s (processAt s p .namespace)) (writtenMap ls)) .state) (stateFor (writtenOf k h i)) ≡ stateFor (cond (sameKind k j && eqb i (placeOf h name)) (mapLines text) (writtenOf k h i))
+    states-after : (j k : Kind) (ls : List Line) (starts : List ℕ) → mapLines text ≡ some ls → (i : ℕ)
+        → cond (eqb i (processAt s p .namespace)) (mapIn k (withMap j (namespaceAt s (processAt s p .namespace)) (writtenMap ls starts)) .state) (stateFor (writtenOf k h i)) ≡ stateFor (cond (sameKind k j && eqb i (placeOf h name)) (mapLines text) (writtenOf k h i))
     unfolding withMap
-    states-after User User ls m i = rw (caller-place s h a name p e, m) (sym (cond-ap stateFor (eqb i (placeOf h name)) (some ls) (writtenOf User h i)))
-    states-after Group Group ls m i = rw (caller-place s h a name p e, m) (sym (cond-ap stateFor (eqb i (placeOf h name)) (some ls) (writtenOf Group h i)))
-    states-after User Group ls m i = picked-same (λ (n : ℕ). stateFor (writtenOf Group h n)) i (processAt s p .namespace) _ (a .namespace-state Group (processAt s p .namespace))
-    states-after Group User ls m i = picked-same (λ (n : ℕ). stateFor (writtenOf User h n)) i (processAt s p .namespace) _ (a .namespace-state User (processAt s p .namespace))
+    states-after User User ls starts m i = rw (caller-place s h a name p e, m) (sym (cond-ap stateFor (eqb i (placeOf h name)) (some ls) (writtenOf User h i)))
+    states-after Group Group ls starts m i = rw (caller-place s h a name p e, m) (sym (cond-ap stateFor (eqb i (placeOf h name)) (some ls) (writtenOf Group h i)))
+    states-after User Group ls starts m i = picked-same (λ (n : ℕ). stateFor (writtenOf Group h n)) i (processAt s p .namespace) _ (a .namespace-state Group (processAt s p .namespace))
+    states-after Group User ls starts m i = picked-same (λ (n : ℕ). stateFor (writtenOf User h n)) i (processAt s p .namespace) _ (a .namespace-state User (processAt s p .namespace))
 
-    -- the lifted maps alike
-    lifted-after : (k j : Kind) (ls : List Line) → mapLines text ≡ some ls → (i : ℕ)
-        → cond (sameKind k j && eqb i (processAt s p .namespace)) (liftedOf (liftedAt s j (namespaceAt s (processAt s p .namespace) .parent)) (namespaceAt s (processAt s p .namespace) .parent) ls) (liftOf k h i)
-        ≡ cond (sameKind k j && eqb i (placeOf h name)) (liftedBy (liftOf k h (parentOf h (placeOf h name))) (parentOf h (placeOf h name)) (mapLines text)) (liftOf k h i)
-    lifted-after k j ls m i =
-        by-test (sameKind k j && eqb i (placeOf h name))
-        (λ t.
-        let u : namespaceAt s (processAt s p .namespace) .parent ≡ parentOf h (placeOf h name) = a .namespace-parent (processAt s p .namespace) ∙ ap (parentOf h) (caller-place s h a name p e) in
-        let q : liftedAt s j (namespaceAt s (processAt s p .namespace) .parent) ≡ liftOf k h (parentOf h (placeOf h name)) =
-        b .lifted j (namespaceAt s (processAt s p .namespace) .parent)
-        ∙ ap (liftOf j h) u
-        ∙ ap (λ (x : Kind). liftOf x h (parentOf h (placeOf h name))) (sym (same-kind k j (and-left (sameKind k j) (eqb i (placeOf h name)) t))) in
-        let r : liftedOf (liftedAt s j (namespaceAt s (processAt s p .namespace) .parent)) (namespaceAt s (processAt s p .namespace) .parent) ls ≡ liftedBy (liftOf k h (parentOf h (placeOf h name))) (parentOf h (placeOf h name)) (mapLines text) =
-        (λ d. liftedOf (q d) (u d) ls) ∙ rw m in
-        rw (r, caller-place s h a name p e, t))
-        (λ t. rw (caller-place s h a name p e, t))
+    -- the namespace above is that of the history, and so are its lines and what its IDs stand for
+    up-is : namespaceAt s (processAt s p .namespace) .parent ≡ parentOf h (placeOf h name)
+    up-is = a .namespace-parent (processAt s p .namespace) ∙ ap (parentOf h) (caller-place s h a name p e)
 
-    -- the lines above are those of the history
     above-is : (k : Kind) → by .whole k (namespaceAt s (processAt s p .namespace) .parent) ≡ liesWhole (writtenLines k h (parentOf h (placeOf h name)))
     above-is k =
-        let u : namespaceAt s (processAt s p .namespace) .parent ≡ parentOf h (placeOf h name) = a .namespace-parent (processAt s p .namespace) ∙ ap (parentOf h) (caller-place s h a name p e) in
-        (λ i. o i .whole k (namespaceAt s (processAt s p .namespace) .parent)) ∙ ap (λ (m : ℕ). liesWhole (writtenLines k h m)) u
+        (λ i. o i .whole k (namespaceAt s (processAt s p .namespace) .parent)) ∙ ap (λ (m : ℕ). liesWhole (writtenLines k h m)) up-is
 
-    mapped-next : (k : Kind) (ls : List Line) → mapLines text ≡ some ls → isWritten (mapIn k (namespaceAt s (processAt s p .namespace)) .state) ≡ false
-        → allWhole (by .whole k (namespaceAt s (processAt s p .namespace) .parent)) ls ≡ true
-        → Next h (mapped k name text) (mappedTables s k (processAt s p .namespace) ls)
-    unfolding mappedTables isProcess isNamespace placeOf parentOf levelOf writtenOf liftOf heldOf
-    mapped-next k ls m w c =
-        let n = processAt s p .namespace in
-        let g : allWhole (liesWhole (writtenLines k h (parentOf h (placeOf h name)))) ls ≡ true = rw (above-is k) at c in
-        record {
-          agree = keeps-tables (putNamespace s n (withMap k (namespaceAt s n) (writtenMap ls))) _ _ _ _ _ _ _
-              (stores-namespace s _ _ _ _ _ _ _ a n (withMap k (namespaceAt s n) (writtenMap ls)) (namespace-in-range s n target-live) _ _ _ _
-              (λ i. picked-same (isNamespace h) i n _ (map-live k (namespaceAt s n) (writtenMap ls) ∙ a .namespace-live n))
-              (λ i. picked-same (parentOf h) i n _ (map-parent k (namespaceAt s n) (writtenMap ls) ∙ a .namespace-parent n))
-              (λ i. picked-same (levelOf h) i n _ (map-level k (namespaceAt s n) (writtenMap ls) ∙ a .namespace-level n))
-              (λ j i. maps-after k j ls m i)
-              (λ j i. states-after k j ls m i))
-              _ _;
-          beside = stores-lifted (putNamespace s n (withMap k (namespaceAt s n) (writtenMap ls))) (λ (j : Kind). liftOf j h)
-              (keeps-lifted s (λ (j : Kind). liftOf j h) _ _ b) k n _
-              (let r = namespace-in-range s n target-live in let q = a .namespace-places in omega arith) _
-              (λ j i. lifted-after j k ls m i);
-          allowed = record {
-            process = caller-live s h a name p e;
-            unwritten = rw (← caller-place s h a name p e) (sym (a .namespace-map k n) ∙ unwritten-is (mapIn k (namespaceAt s n)) w);
-            parent-written = λ q. let z = some-lines text ls m in let n : length ls ≡ 0 = ap length (none-whole ls (rw q at g)) in omega arith;
-            whole = rw m g;
-          };
-        }
+    out-is : (k : Kind) → by .out k (namespaceAt s (processAt s p .namespace) .parent) ≡ standsFor k h (parentOf h (placeOf h name))
+    out-is k = (λ i. o i .out k (namespaceAt s (processAt s p .namespace) .parent)) ∙ ap (λ (m : ℕ). standsFor k h m) up-is
+
+    -- the kernel starts after a write: those of the other kind and of other namespaces are as they were
+    starts-after : (j k : Kind) (m : IdMap) (i : ℕ)
+        → cond (eqb i (processAt s p .namespace)) (startsIn k (withMap j (namespaceAt s (processAt s p .namespace)) m)) (startsIn k (namespaceAt s i)) ≡ cond (sameKind k j && eqb i (placeOf h name)) (m .kernel) (startsIn k (namespaceAt s i))
+    unfolding withMap
+    starts-after User User m i = rw (caller-place s h a name p e)
+    starts-after Group Group m i = rw (caller-place s h a name p e)
+    starts-after User Group m i = picked-same (λ (n : ℕ). startsIn Group (namespaceAt s n)) i (processAt s p .namespace) _ refl
+    starts-after Group User m i = picked-same (λ (n : ℕ). startsIn User (namespaceAt s n)) i (processAt s p .namespace) _ refl
+
+    module _ (k : Kind) (ls : List Line) (m : mapLines text ≡ some ls) (w : isWritten (mapIn k (namespaceAt s (processAt s p .namespace)) .state) ≡ false)
+        (c : allWhole (by .whole k (namespaceAt s (processAt s p .namespace) .parent)) ls ≡ true) where
+      all-whole : allWhole (liesWhole (writtenLines k h (parentOf h (placeOf h name)))) ls ≡ true
+      all-whole = rw (above-is k) at c
+
+      allowed : Maps h k name text
+      allowed = record {
+        process = caller-live s h a name p e;
+        unwritten = rw (← caller-place s h a name p e) (sym (a .namespace-map k (processAt s p .namespace)) ∙ unwritten-is (mapIn k (namespaceAt s (processAt s p .namespace))) w);
+        parent-written = λ q. let z = some-lines text ls m in let n : length ls ≡ 0 = ap length (none-whole ls (rw q at all-whole)) in omega arith;
+        whole = rw m all-whole;
+      }
+
+      abbrev starts : List ℕ
+      starts = kernelStarts (by .out k (namespaceAt s (processAt s p .namespace) .parent)) ls
+
+      -- the new lines' parent starts stand for IDs
+      new-starts : Started (OutOf k (mapped k name text ∷ h) (parentOf (mapped k name text ∷ h) (placeOf h name))) ls starts
+      unfolding kernelStarts parentOf
+      new-starts =
+          let up = parentOf h (placeOf h name) in
+          started-kept (OutOf k h up) _ (λ x y r. out-kept (mapped k name text) h allowed d k up x y r) ls _
+          (rw (out-is k) (starts-stand h d k up ls (replicate (maxLines - length ls) 0) all-whole (rw m at (map-lines-good text))))
+
+      starts-written : (j : Kind) (i : ℕ) → StartsAt (mapped k name text ∷ h) j i (cond (sameKind j k && eqb i (placeOf h name)) starts (startsIn j (namespaceAt s i)))
+      unfolding writtenOf
+      starts-written j i =
+          by-test (sameKind j k && eqb i (placeOf h name))
+          (λ t.
+          let r = same-kind j k (and-left (sameKind j k) (eqb i (placeOf h name)) t) in
+          let u = eqb-true i (placeOf h name) (and-right (sameKind j k) (eqb i (placeOf h name)) t) in
+          rw (t, m) (subst (λ (v : Kind × ℕ). Started (OutOf (v .0) (mapped k name text ∷ h) (parentOf (mapped k name text ∷ h) (v .1))) ls starts) (λ z. (sym r z, sym u z)) new-starts))
+          (λ t. rw t (starts-kept (mapped k name text) h allowed d j i (startsIn j (namespaceAt s i)) (b j i)))
+
+      mapped-beside : Beside (mappedTables by s k (processAt s p .namespace) ls) (mapped k name text ∷ h)
+      unfolding mappedTables
+      mapped-beside =
+          let n = processAt s p .namespace in
+          stores-beside s (mapped k name text ∷ h) n (withMap k (namespaceAt s n) (writtenMap ls starts)) (namespace-in-range s n target-live) (λ j i.
+          rw (starts-after k j (writtenMap ls starts) i) (starts-written j i))
+
+      mapped-next : Next h (mapped k name text) (mappedTables by s k (processAt s p .namespace) ls)
+      unfolding mappedTables isProcess isNamespace placeOf parentOf levelOf writtenOf heldOf
+      mapped-next =
+          let n = processAt s p .namespace in
+          let new = writtenMap ls starts in
+          record {
+            agree = stores-namespace s _ _ _ _ _ _ _ a n (withMap k (namespaceAt s n) new) (namespace-in-range s n target-live) _ _ _ _
+                (λ i. picked-same (isNamespace h) i n _ (map-live k (namespaceAt s n) new ∙ a .namespace-live n))
+                (λ i. picked-same (parentOf h) i n _ (map-parent k (namespaceAt s n) new ∙ a .namespace-parent n))
+                (λ i. picked-same (levelOf h) i n _ (map-level k (namespaceAt s n) new ∙ a .namespace-level n))
+                (λ j i. maps-after k j ls starts m i)
+                (λ j i. states-after k j ls starts m i);
+            beside = mapped-beside;
+            allowed = allowed;
+          }
 
     -- a setting changes nothing that a history tells
     set-next : (t : Bool) → Next h other (putNamespace s (processAt s p .namespace) (withDeny (namespaceAt s (processAt s p .namespace)) t))
@@ -168,7 +211,8 @@ module _ (by : Translation) (s : State) (h : List Event) (a : Agreed s h) (b : B
         (λ i. picked-same (levelOf h) i n _ (a .namespace-level n))
         (λ k i. picked-same (writtenOf k h) i n _ (ap writtenIn (deny-map k (namespaceAt s n) t) ∙ a .namespace-map k n))
         (λ k i. picked-same (λ (i : ℕ). stateFor (writtenOf k h i)) i n _ (ap (λ (m : IdMap). m .state) (deny-map k (namespaceAt s n) t) ∙ a .namespace-state k n)))
-        (keeps-lifted s (λ (k : Kind). liftOf k h) _ _ b)
+        (stores-beside s h n (withDeny (namespaceAt s n) t) (namespace-in-range s n target-live) (λ k i.
+        rw (picked-same (λ (m : ℕ). startsIn k (namespaceAt s m)) i n (startsIn k (withDeny (namespaceAt s n) t)) (ap (λ (m : IdMap). m .kernel) (deny-map k (namespaceAt s n) t))) (b k i)))
 
   pub write-map-next : (k : Kind) (c name : ℕ) → After h (WriteMap k c name) text list (writeMapOf by s k c name text)
   write-map-next k c name =

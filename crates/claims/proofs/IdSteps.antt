@@ -29,8 +29,7 @@ use Rattle.claims.specs.Events.{Event, changed, grouped}
 use Rattle.claims.specs.Words.{Held, isProcess, isNamespace, placeOf, parentOf, levelOf, writtenOf, heldOf, standsFor, chosenOf, changedIds, sameKind}
 use Rattle.claims.specs.History.{AllSmall}
 use Rattle.claims.specs.Agreement.{supplementaryIn, heldIn, Agreed}
-use Rattle.claims.specs.LiftedMaps.{liftOf}
-use Rattle.claims.proofs.Beside.{Beside, keeps-lifted}
+use Rattle.claims.proofs.Beside.{Beside, keeps-beside}
 use Rattle.claims.proofs.Allowed.{AllStand}
 use Rattle.claims.proofs.Stores.{cond-ap, named, process-in-range, same-number}
 use Rattle.claims.proofs.Agree.{picked-same, stores-process, keeps-process, caller-is, caller-live, caller-place, caller-ids}
@@ -155,14 +154,14 @@ module _ (by : Translation) (s : State) (h : List Event) (a : Agreed s h) (b : B
           ∙ sym (same-supplementary (sameKind Group k && eqb (suc m) c) _ _ _ (λ t. ap (λ (r : ℕ). heldOf Group h r .supplementary) (sym (eqb-true (suc m) c (and-right (sameKind Group k) (eqb (suc m) c) t)))))
 
       changed-next : new .real < 2 ^ 32 → new .effective < 2 ^ 32 → new .saved < 2 ^ 32 → Next h (changed k c new) (putProcess s i (withIds by k (processAt s i) after))
-      unfolding isProcess isNamespace placeOf parentOf levelOf writtenOf liftOf heldOf
+      unfolding isProcess isNamespace placeOf parentOf levelOf writtenOf heldOf
       changed-next u v w = record {
         agree = stores-process s _ _ _ _ _ _ _ a i (withIds by k (processAt s i) after) (process-in-range s i (named s c i e .1)) _ _ _
             (λ m. picked-same (λ (r : ℕ). isProcess h (suc r)) m i _ (ids-live by k (processAt s i) after ∙ a .process-live i))
             (λ m. picked-same (λ (r : ℕ). placeOf h (suc r)) m i _ (ids-place by k (processAt s i) after ∙ a .process-place i))
             held-after
             count-after;
-        beside = keeps-lifted s (λ (k : Kind). liftOf k h) _ _ b;
+        beside = keeps-beside s h i (withIds by k (processAt s i) after) b;
         allowed = record {
           caller = caller-live s h a c i e;
           real = record { small = u; given = x; stands = stands-x };
@@ -184,7 +183,7 @@ module _ (by : Translation) (s : State) (h : List Event) (a : Agreed s h) (b : B
       nothing-happened _ h
       (keeps-process s _ _ _ _ _ _ _ a i (withSets (processAt s i) permitted effective) (process-in-range s i (named s c i e .1)) refl refl
       (λ k. sets-ids k (processAt s i) permitted effective) refl)
-      (keeps-lifted s (λ (k : Kind). liftOf k h) _ _ b))
+      (keeps-beside s h i (withSets (processAt s i) permitted effective) b))
 
   -- ---- setgroups
   module _ (c i : ℕ) (e : callerNamed s c ≡ At i) (l : List ℕ) (f : kernelGroups by (processAt s i .namespace) list ≡ some l) where
@@ -214,14 +213,14 @@ module _ (by : Translation) (s : State) (h : List Event) (a : Agreed s h) (b : B
         (sym (cond-ap (λ (r : Held). length (r .supplementary)) (eqb m i) _ (heldOf Group h (suc m))))
 
     grouped-next : AllSmall list → length list ≤ maxGroups → Next h (grouped c list) (putProcess s i (withList (processAt s i) (groupList l)))
-    unfolding isProcess isNamespace placeOf parentOf levelOf writtenOf liftOf heldOf withList
+    unfolding isProcess isNamespace placeOf parentOf levelOf writtenOf heldOf withList
     grouped-next f few = record {
       agree = stores-process s _ _ _ _ _ _ _ a i (withList (processAt s i) (groupList l)) (process-in-range s i (named s c i e .1)) _ _ _
           (λ m. picked-same (λ (r : ℕ). isProcess h (suc r)) m i _ (a .process-live i))
           (λ m. picked-same (λ (r : ℕ). placeOf h (suc r)) m i _ (a .process-place i))
           groups-after
           group-count;
-      beside = keeps-lifted s (λ (k : Kind). liftOf k h) _ _ b;
+      beside = keeps-beside s h i (withList (processAt s i) (groupList l)) b;
       allowed = record { caller = caller-live s h a c i e; few = few; each = groups-stand h (placeOf h c) list l f all-stand };
     }
 

@@ -4,14 +4,14 @@
 use Prim.Native.Nat.{ℕ, zero, suc, _≤_, _<_, _^_}
 use mathlib.Core.Path.{_≡_, refl, sym, ap, _∙_, subst}
 use mathlib.Core.Bool.{true}
-use mathlib.Core.List.{List}
+use mathlib.Core.List.{List, []}
 use native.Mathlib.Omega.{arith}
 use lib.Dec.{eqb}
 use borrow.Author.Tests.{eq-eqb, ne-eqb, eqb-true, eqb-false}
 use Rattle.idmap.specs.declared.Line.{Line}
 use Rattle.idmap.specs.declared.Translated.{Translated}
 use Rattle.idmap.specs.declared.Translated.the-variants.{Id, Unmapped}
-use Rattle.idmap.specs.Lookup.{out}
+use Rattle.idmap.specs.Lookup.{out, thenId, back}
 use Rattle.idmap.specs.Good.{noId, goodOf}
 use Rattle.idmap.proofs.Translation.{two-answers}
 use Rattle.hierarchy.specs.Walks.{itself}
@@ -118,3 +118,20 @@ module _ (up : ℕ → ℕ) (lines : ℕ → List Line) (good : (n : ℕ) → go
 
     pub one-to-one : (n x x′ y : ℕ) → GoesOut up lines n x y → GoesOut up lines n x′ y → x ≡ x′
     one-to-one n x x′ y o o′ = back-once n y x x′ (out-back n x y o) (out-back n x′ y o′)
+
+-- ---- through no lines nothing is found
+module _ (up : ℕ → ℕ) (lines : ℕ → List Line) where
+  pub nothing-out : (f n x : ℕ) → (n ≡ 0 → ⊥) → lines n ≡ [] → outBy up lines f n x ≡ Unmapped
+  unfolding outBy out
+  nothing-out zero n x z e = rw (ne-eqb n 0 z)
+  nothing-out (suc f) n x z e = rw (ne-eqb n 0 z, e)
+
+  none-then : (t : Translated) → thenId t (λ z. back [] z) ≡ Unmapped
+  unfolding out
+  none-then (Id z) = refl
+  none-then Unmapped = refl
+
+  pub nothing-back : (f n y : ℕ) → (n ≡ 0 → ⊥) → lines n ≡ [] → backBy up lines f n y ≡ Unmapped
+  unfolding backBy
+  nothing-back zero n y z e = rw (ne-eqb n 0 z)
+  nothing-back (suc f) n y z e = rw (ne-eqb n 0 z, e) (none-then (backBy up lines f (up n) y))

@@ -4,12 +4,12 @@ pub mod Sound
 pub mod Allowed
 pub mod HistoryLevels
 pub mod Kept
+pub mod KernelStarts
 pub mod Stays
 pub mod Carried
 pub mod Stores
 pub mod Beside
 pub mod Agree
-pub mod Lifting
 pub mod Translating
 pub mod Cases
 pub mod Steps

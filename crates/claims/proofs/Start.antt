@@ -1,25 +1,28 @@
 -- The initial tables agree with the history in which nothing has happened. Assumes nothing.
 use Prim.Native.Nat.{ℕ, zero, suc}
-use mathlib.Core.Path.{_≡_, refl, sym, ap, _∙_}
+use mathlib.Core.Path.{_≡_, refl, sym, ap, _∙_, subst}
 use mathlib.Core.Bool.{Bool, true, false, cond}
-use mathlib.Core.List.{[]}
-use mathlib.Core.Option.{none}
+use mathlib.Core.List.{List, []}
+use mathlib.Core.Option.{Option, none}
 use native.Mathlib.Omega.{arith}
 use lib.Dec.{eqb}
 use lib.ListN.{length, getD, replicate, length-replicate}
+use borrow.Author.Tests.{eqb-true}
+use Rattle.idmap.specs.declared.Line.{Line}
 use Rattle.records.specs.declared.Kind.{Kind}
 use Rattle.records.specs.declared.Kind.the-variants.{User, Group}
 use Rattle.records.specs.declared.Process.{Process}
 use Rattle.records.specs.declared.MapState.the-variants.{Unwritten}
 use Rattle.records.specs.declared.Namespace.{Namespace}
 use Rattle.records.specs.Records.{freeProcess, freeNamespace, mapIn, zeroIds}
-use Rattle.tables.specs.Tables.{State, processAt, namespaceAt, liftedMaps, noLift, fixedLift, liftedAt, putProcess, firstProcess, rootNamespace, firstLiftedMaps, initialTables, processPlaces, namespacePlaces}
+use Rattle.tables.specs.Tables.{State, processAt, namespaceAt, putProcess, firstProcess, rootNamespace, initialTables, processPlaces, namespacePlaces}
 use Rattle.prelude.proofs.Tests.{by-test}
-use Rattle.claims.specs.Words.{isProcess, isNamespace, placeOf, parentOf, levelOf, writtenOf, heldOf}
+use Rattle.claims.specs.Words.{isProcess, isNamespace, placeOf, parentOf, levelOf, writtenOf, orNone, writtenLines, heldOf}
 use Rattle.claims.specs.Agreement.{heldIn, writtenIn, stateFor, Agrees, Agreed}
-use Rattle.claims.specs.LiftedMaps.{liftOf}
-use Rattle.claims.proofs.Beside.{Beside}
-use Rattle.claims.proofs.Stores.{stored-or-kept, next-number}
+use Rattle.claims.specs.Translation.{top}
+use Rattle.claims.proofs.KernelStarts.{Started}
+use Rattle.claims.proofs.Beside.{StartsAt, startsIn, Beside, no-starts, stores-beside}
+use Rattle.claims.proofs.Stores.{next-number}
 use Rattle.claims.proofs.Agree.{stores-process, stores-namespace}
 
 all-same : {A : Type 0} (x : A) (n i : ℕ) → getD (replicate n x) i x ≡ x
@@ -28,7 +31,7 @@ all-same x (suc n) zero = refl
 all-same x (suc n) (suc i) = all-same x n i
 
 abbrev empty : State
-empty = record { processes = replicate processPlaces freeProcess; namespaces = replicate namespacePlaces freeNamespace; liftedUsers = firstLiftedMaps; liftedGroups = firstLiftedMaps }
+empty = record { processes = replicate processPlaces freeProcess; namespaces = replicate namespacePlaces freeNamespace }
 
 free-ids : (k : Kind) → heldIn k freeProcess ≡ record { three = zeroIds; supplementary = [] }
 free-ids User = refl
@@ -93,20 +96,20 @@ start-agrees =
     root-map
     root-state
 
--- ---- the lifted maps: the initial namespace's only
-first-places : (k : Kind) → length (liftedMaps k initialTables) ≡ namespacePlaces
-unfolding initialTables firstLiftedMaps
-first-places User = refl
-first-places Group = refl
+-- ---- the kernel starts: the fixed line stands for itself
+root-starts : (k : Kind) → StartsAt [] k 0 (startsIn k rootNamespace)
+unfolding Started writtenOf parentOf
+root-starts User = (top {x = 0} {y = 0} refl refl (omega arith), tt)
+root-starts Group = (top {x = 0} {y = 0} refl refl (omega arith), tt)
 
-first-lift : (i : ℕ) → getD firstLiftedMaps i noLift ≡ cond (eqb i 0) fixedLift noLift
-unfolding firstLiftedMaps
-first-lift i = stored-or-kept (replicate namespacePlaces noLift) 0 fixedLift noLift i (rw (length-replicate) (omega arith)) ∙ rw (all-same noLift namespacePlaces i)
-
-first-lifts : (k : Kind) (i : ℕ) → liftedAt initialTables k i ≡ liftOf k [] i
-unfolding initialTables liftedAt liftOf
-first-lifts User i = first-lift i
-first-lifts Group i = first-lift i
+none-written : (k : Kind) (n : ℕ) → eqb n 0 ≡ false → writtenOf k [] n ≡ none
+unfolding writtenOf
+none-written k n t = rw t
 
 pub start-beside : Beside initialTables []
-start-beside = record { places = first-places; lifted = first-lifts }
+unfolding initialTables
+start-beside =
+    stores-beside (putProcess empty 0 firstProcess) [] 0 rootNamespace (rw (length-replicate) (omega arith)) (λ k n.
+    by-test (eqb n 0)
+    (λ t. rw t (subst (λ (m : ℕ). StartsAt [] k m (startsIn k rootNamespace)) (sym (eqb-true n 0 t)) (root-starts k)))
+    (λ t. no-starts _ (writtenLines k [] n) _ (ap (λ (o : Option (List Line)). length (orNone o)) (none-written k n t))))

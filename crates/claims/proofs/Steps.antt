@@ -1,16 +1,17 @@
 -- Fork, clone, unshare and setns, and the reads and questions: what each leaves agrees with its history, and it was
 -- allowed. Assumes nothing.
 use Prim.Native.Nat.{ℕ, zero, suc, _+_}
-use mathlib.Core.Path.{_≡_, refl, sym, ap, _∙_}
+use mathlib.Core.Path.{_≡_, refl, sym, ap, _∙_, subst}
 use mathlib.Core.Bool.{Bool, true, false, cond, true≢false}
 use mathlib.Core.List.{List, _∷_}
-use mathlib.Core.Option.{none}
+use mathlib.Core.Option.{Option, none}
 use native.Mathlib.Numerals.{add-one}
 use native.Mathlib.Omega.{arith}
 use lib.Dec.{eqb, leb}
 use lib.ListN.{length}
 use borrow.Author.Tests.{eqb-true, eqb-false, leb-false}
 use Rattle.capability.specs.Sets.{capSysAdmin}
+use Rattle.idmap.specs.declared.Line.{Line}
 use Rattle.records.specs.declared.Kind.{Kind}
 use Rattle.records.specs.declared.Kind.the-variants.{User, Group}
 use Rattle.records.specs.declared.Process.{Process}
@@ -27,18 +28,17 @@ use Rattle.calls.specs.declared.Call.{Call}
 use Rattle.calls.specs.declared.Call.the-variants.{Fork, Clone, Unshare, Setns}
 use Rattle.prelude.proofs.Tests.{by-test, and-left}
 use Rattle.claims.specs.Events.{Event, other, forked, cloned, unshared, joined}
-use Rattle.claims.specs.Words.{Held, isProcess, isNamespace, placeOf, parentOf, levelOf, writtenOf, heldOf}
+use Rattle.claims.specs.Words.{Held, isProcess, isNamespace, placeOf, parentOf, levelOf, writtenOf, orNone, writtenLines, heldOf}
 use Rattle.claims.specs.Translation.{here, deeper}
-use Rattle.claims.specs.TopLevel.{IsUnder}
+use Rattle.claims.specs.TopLevel.{IsUnder, OutOf}
 use Rattle.claims.specs.History.{happenedBy}
 use Rattle.claims.specs.Agreement.{heldIn, writtenIn, stateFor, Agrees, Agreed}
-use Rattle.claims.specs.LiftedMaps.{liftOf}
-use Rattle.claims.proofs.Beside.{LiftedAs, Beside, keeps-lifted, clears-lifted}
-use Rattle.claims.proofs.Allowed.{Allowed, SoundAt, NewNamespace}
+use Rattle.claims.proofs.Allowed.{Allowed, SoundAt, NewProcess, NewNamespace}
+use Rattle.claims.proofs.KernelStarts.{Started}
+use Rattle.claims.proofs.Beside.{startsIn, Beside, no-starts, starts-kept, keeps-beside, stores-beside}
 use Rattle.claims.proofs.Stores.{cond-ap, named, space-named, free-process, free-namespace, process-in-range, next-number, same-number}
 use Rattle.claims.proofs.Cases.{fork-case, clone-case, unshare-case, setns-case}
-use Rattle.claims.proofs.Agree.{picked-same, stores-process, stores-namespace, keeps-tables, caller-is, caller-live, caller-place, caller-ids, caller-count}
-use Rattle.claims.proofs.Translating.{LiftsAt}
+use Rattle.claims.proofs.Agree.{picked-same, stores-process, stores-namespace, caller-is, caller-live, caller-place, caller-ids, caller-count}
 
 -- the tables after an event agree with the history that it lengthens, and it was allowed
 pub record Next (h : List Event) (e : Event) (t : State) : Type 0 where
@@ -48,13 +48,13 @@ pub record Next (h : List Event) (e : Event) (t : State) : Type 0 where
 
 -- nothing happened
 pub nothing-happened : (s : State) (h : List Event) → Agreed s h → Beside s h → Next h other s
-unfolding isProcess isNamespace placeOf parentOf levelOf writtenOf liftOf heldOf
+unfolding isProcess isNamespace placeOf parentOf levelOf writtenOf heldOf
 nothing-happened s h a b = record { agree = a; beside = b; allowed = tt }
 
 abbrev pub After : List Event → Call → List ℕ → List ℕ → Outcome → Type 0
 After h c text list o = Next h (happenedBy c text list (o .reply)) (o .tables)
 
-module _ (by : Translation) (s : State) (h : List Event) (a : Agreed s h) (b : Beside s h) (d : SoundAt h) (l : LiftsAt h) (text list : List ℕ) where
+module _ (by : Translation) (s : State) (h : List Event) (a : Agreed s h) (b : Beside s h) (d : SoundAt h) (text list : List ℕ) where
   -- a child has as many groups as the caller
   count-after : (j q c i : ℕ) → callerNamed s c ≡ At i
       → cond (eqb j q) (processAt s i .supplementary .count) (length (heldOf Group h (suc j) .supplementary)) ≡ length (cond (eqb (suc j) (processNumber q)) (heldOf Group h c) (heldOf Group h (suc j)) .supplementary)
@@ -62,14 +62,14 @@ module _ (by : Translation) (s : State) (h : List Event) (a : Agreed s h) (b : B
 
   -- ---- fork
   forked-next : (c i q : ℕ) → callerNamed s c ≡ At i → freeProcessPlace s ≡ At q → Next h (forked c (processNumber q)) (putProcess s q (processAt s i))
-  unfolding isProcess isNamespace placeOf parentOf levelOf writtenOf liftOf heldOf
+  unfolding isProcess isNamespace placeOf parentOf levelOf writtenOf heldOf
   forked-next c i q e f = record {
     agree = stores-process s _ _ _ _ _ _ _ a q (processAt s i) (free-process s q f .0) _ _ _
         (λ j. rw (next-number j q, named s c i e .1))
         (λ j. rw (next-number j q, caller-place s h a c i e))
         (λ k j. rw (next-number j q, caller-ids s h a c i e k))
         (λ j. count-after j q c i e);
-    beside = keeps-lifted s (λ (k : Kind). liftOf k h) _ _ b;
+    beside = keeps-beside s h q (processAt s i) b;
     allowed = record {
       caller = caller-live s h a c i e;
       unused = sym (a .process-live q) ∙ free-process s q f .1;
@@ -122,51 +122,54 @@ module _ (by : Translation) (s : State) (h : List Event) (a : Agreed s h) (b : B
         (λ (k : Kind). writtenOf k h) (λ (k : Kind). heldOf k h)
     unfolding below
     with-child =
-        keeps-tables (putNamespace s n child) _ _ _ _ _ _ _
-        (stores-namespace s _ _ _ _ _ _ _ a n child (free-namespace s n g .0) _ _ _ _
+        stores-namespace s _ _ _ _ _ _ _ a n child (free-namespace s n g .0) _ _ _ _
         (λ i. refl)
         (λ i. rw (caller-place s h a c p e))
         (λ i. rw (level-above, add-one))
         (λ k i. picked-same (writtenOf k h) i n (writtenIn (mapIn k child)) (fresh-map k (processAt s p) own ∙ sym (d .made k n unused)))
-        (λ k i. picked-same (λ (m : ℕ). stateFor (writtenOf k h m)) i n (mapIn k child .state) (fresh-state k (processAt s p) own ∙ ap stateFor (sym (d .made k n unused)))))
-        _ _
+        (λ k i. picked-same (λ (m : ℕ). stateFor (writtenOf k h m)) i n (mapIn k child .state) (fresh-state k (processAt s p) own ∙ ap stateFor (sym (d .made k n unused))))
 
-    -- it has no lifted map, and every other one is as it was
-    child-beside : LiftedAs (withChild s p n) (λ (k : Kind). liftOf k h)
-    child-beside =
-        clears-lifted (putNamespace s n child) (λ (k : Kind). liftOf k h) n
-        (let r = free-namespace s n g .0 in let q = a .namespace-places in omega arith)
-        (λ k. l .unwritten k n (d .made k n unused))
-        (keeps-lifted s (λ (k : Kind). liftOf k h) _ _ b)
+    -- it has no lines, and the kernel starts of every other one are kept
+    child-beside : (new : Event) → Allowed h new → ((k : Kind) → writtenOf k (new ∷ h) ≡ writtenOf k h) → Beside (withChild s p n) (new ∷ h)
+    child-beside new allowed same =
+        stores-beside s (new ∷ h) n child (free-namespace s n g .0) (λ k i.
+        let kept = starts-kept new h allowed d k i (startsIn k (namespaceAt s i)) (b k i) in
+        subst (λ (w : ℕ → Option (List Line)). Started (OutOf k (new ∷ h) (parentOf (new ∷ h) i)) (orNone (w i)) (cond (eqb i n) (startsIn k child) (startsIn k (namespaceAt s i)))) (sym (same k))
+        (by-test (eqb i n)
+        (λ t. no-starts _ (writtenLines k h i) _ (ap (λ (o : Option (List Line)). length (orNone o)) (ap (writtenOf k h) (eqb-true i n t) ∙ d .made k n unused)))
+        (λ t. rw t kept)))
+
+    new-child : (q : ℕ) → freeProcessPlace s ≡ At q → NewProcess h c (processNumber q) × NewNamespace h c n
+    new-child q f = (
+      record {
+        caller = caller-live s h a c p e;
+        unused = sym (a .process-live q) ∙ free-process s q f .1;
+        named = λ z. omega arith;
+      },
+      new-namespace,
+    )
 
     cloned-next : (q : ℕ) → freeProcessPlace s ≡ At q → Next h (cloned c (processNumber q) n) (putProcess (withChild s p n) q (entered (processAt s p) n))
-    unfolding isProcess isNamespace placeOf parentOf levelOf writtenOf liftOf heldOf entered
+    unfolding isProcess isNamespace placeOf parentOf levelOf writtenOf heldOf entered
     cloned-next q f = record {
       agree = stores-process (withChild s p n) _ _ _ _ _ _ _ with-child q (entered (processAt s p) n) (free-process s q f .0) _ _ _
           (λ j. rw (next-number j q, named s c p e .1))
           (λ j. rw (next-number j q))
           (λ k j. rw (next-number j q, entered-ids k (processAt s p) n, caller-ids s h a c p e k))
           (λ j. count-after j q c p e);
-      beside = keeps-lifted (withChild s p n) (λ (k : Kind). liftOf k h) _ _ child-beside;
-      allowed = (
-        record {
-          caller = caller-live s h a c p e;
-          unused = sym (a .process-live q) ∙ free-process s q f .1;
-          named = λ z. omega arith;
-        },
-        new-namespace,
-      );
+      beside = keeps-beside (withChild s p n) (cloned c (processNumber q) n ∷ h) q (entered (processAt s p) n) (child-beside (cloned c (processNumber q) n) (new-child q f) (λ k. refl));
+      allowed = new-child q f;
     }
 
     unshared-next : Next h (unshared c n) (putProcess (withChild s p n) p (entered (processAt s p) n))
-    unfolding isProcess isNamespace placeOf parentOf levelOf writtenOf liftOf heldOf entered
+    unfolding isProcess isNamespace placeOf parentOf levelOf writtenOf heldOf entered
     unshared-next = record {
       agree = stores-process (withChild s p n) _ _ _ _ _ _ _ with-child p (entered (processAt s p) n) (process-in-range s p (named s c p e .1)) _ _ _
           (λ j. picked-same (λ (i : ℕ). isProcess h (suc i)) j p (processAt s p .live) (a .process-live p))
           (λ j. rw (same-number j c p (caller-is s h a c p e)))
           (λ k j. picked-same (λ (i : ℕ). heldOf k h (suc i)) j p (heldIn k (entered (processAt s p) n)) (entered-ids k (processAt s p) n ∙ a .process-ids k p))
           (λ j. picked-same (λ (i : ℕ). length (heldOf Group h (suc i) .supplementary)) j p (processAt s p .supplementary .count) (a .process-count p));
-      beside = keeps-lifted (withChild s p n) (λ (k : Kind). liftOf k h) _ _ child-beside;
+      beside = keeps-beside (withChild s p n) (unshared c n ∷ h) p (entered (processAt s p) n) (child-beside (unshared c n) new-namespace (λ k. refl));
       allowed = new-namespace;
     }
 
@@ -196,14 +199,14 @@ module _ (by : Translation) (s : State) (h : List Event) (a : Agreed s h) (b : B
       (λ o. deeper (eqb-false n 0 z) (rw (a .namespace-parent n) at (reaches own euid mine k (namespaceAt s n .parent) (sym (rw (t, z, o)) ∙ e))))))
 
   joined-next : (c name p n : ℕ) → callerNamed s c ≡ At p → namespaceNamed s p name ≡ At n → capableIn s (processAt s p) n capSysAdmin ≡ true → Next h (joined c name) (putProcess s p (entered (processAt s p) n))
-  unfolding isProcess isNamespace placeOf parentOf levelOf writtenOf liftOf heldOf entered capableIn
+  unfolding isProcess isNamespace placeOf parentOf levelOf writtenOf heldOf entered capableIn
   joined-next c name p n e f t = record {
     agree = stores-process s _ _ _ _ _ _ _ a p (entered (processAt s p) n) (process-in-range s p (named s c p e .1)) _ _ _
         (λ j. picked-same (λ (i : ℕ). isProcess h (suc i)) j p (processAt s p .live) (a .process-live p))
         (λ j. rw (same-number j c p (caller-is s h a c p e), space-named s p name n f .0))
         (λ k j. picked-same (λ (i : ℕ). heldOf k h (suc i)) j p (heldIn k (entered (processAt s p) n)) (entered-ids k (processAt s p) n ∙ a .process-ids k p))
         (λ j. picked-same (λ (i : ℕ). length (heldOf Group h (suc i) .supplementary)) j p (processAt s p .supplementary .count) (a .process-count p));
-    beside = keeps-lifted s (λ (k : Kind). liftOf k h) _ _ b;
+    beside = keeps-beside s h p (entered (processAt s p) n) b;
     allowed = record {
       caller = caller-live s h a c p e;
       target = rw (space-named s p name n f .0) (sym (a .namespace-live n) ∙ space-named s p name n f .1);

@@ -1,24 +1,20 @@
 -- Reads after stores, at every place, and what the finds find. Assumes nothing.
 use Prim.Native.Nat.{ℕ, suc, _+_, _-_, _≤_, _<_}
 use mathlib.Core.Path.{_≡_, refl, sym, ap, _∙_}
-use mathlib.Core.Bool.{Bool, true, false, cond, _&&_, true≢false}
+use mathlib.Core.Bool.{Bool, true, false, cond, true≢false}
 use mathlib.Core.List.{List, [], _∷_}
 use native.Mathlib.Omega.{arith}
 use lib.Dec.{eqb, ltb}
 use lib.ListN.{length, getD, set, List·getD-eq-default}
 use lib.Seq.{getD-set-same, getD-set-other}
 use borrow.Author.Tests.{eq-eqb, eqb-true, eqb-false, ltb-true, ltb-false}
-use Rattle.lifted_map.specs.Lift.{Lifted}
 use Rattle.records.specs.declared.Process.{Process}
 use Rattle.records.specs.declared.Namespace.{Namespace}
-use Rattle.records.specs.declared.Kind.{Kind}
-use Rattle.records.specs.declared.Kind.the-variants.{User, Group}
 use Rattle.records.specs.Records.{freeProcess, freeNamespace}
 use Rattle.tables.specs.declared.find.Found.the-variants.{At, Nothing}
-use Rattle.tables.specs.Tables.{State, processAt, namespaceAt, liftedMaps, noLift, liftedAt, putProcess, putNamespace, putLiftedMap}
+use Rattle.tables.specs.Tables.{State, processAt, namespaceAt, putProcess, putNamespace}
 use Rattle.tables.specs.Find.{callerNamed, processNamed, namespaceNamed, freeFrom, freeProcessPlace, freeNamespacePlace, processNumber}
 use Rattle.prelude.proofs.Tests.{by-test, test-same}
-use Rattle.claims.specs.Words.{sameKind}
 
 -- a function of what a test picks
 pub cond-ap : {A B : Type 0} (f : A → B) (t : Bool) (x y : A) → f (cond t x y) ≡ cond t (f x) (f y)
@@ -39,13 +35,6 @@ read-process s q p i h = stored-or-kept (s .processes) q p freeProcess i h
 pub read-namespace : (s : State) (q : ℕ) (n : Namespace) (i : ℕ) → q < length (s .namespaces) → namespaceAt (putNamespace s q n) i ≡ cond (eqb i q) n (namespaceAt s i)
 unfolding namespaceAt
 read-namespace s q n i h = stored-or-kept (s .namespaces) q n freeNamespace i h
-
-pub read-lifted : (s : State) (j : Kind) (q : ℕ) (m : Lifted) (k : Kind) (i : ℕ) → q < length (liftedMaps j s) → liftedAt (putLiftedMap s j q m) k i ≡ cond (sameKind k j && eqb i q) m (liftedAt s k i)
-unfolding liftedAt
-read-lifted s User q m User i h = stored-or-kept (s .liftedUsers) q m noLift i h
-read-lifted s User q m Group i h = refl
-read-lifted s Group q m User i h = refl
-read-lifted s Group q m Group i h = stored-or-kept (s .liftedGroups) q m noLift i h
 
 -- ---- what is live is in range, since a place past the end is free
 live-in-range : {A : Type 0} (live : A → Bool) (l : List A) (free : A) → live free ≡ false → (i : ℕ) → live (getD l i free) ≡ true → i < length l

@@ -32,7 +32,7 @@ use Rattle.claims.proofs.HistoryLevels.{stands-is, is-stands, returns-i
 use Rattle.claims.proofs.Stays.{stays, still-top}
 use Rattle.claims.proofs.Carried.{carried}
 use Rattle.claims.proofs.Stores.{space-named}
-use Rattle.claims.proofs.Translating.{LiftsAt, lifts, byHistory, levels-history}
+use Rattle.claims.proofs.Translating.{byHistory, levels-history}
 use Rattle.claims.proofs.Steps.{Next, nothing-happened, fork-next, clone-next, unshare-next, setns-next}
 use Rattle.claims.proofs.Cases.{found-case}
 use Rattle.claims.proofs.FileSteps.{write-map-next, write-setgroups-next}
@@ -40,14 +40,14 @@ use Rattle.claims.proofs.IdSteps.{set-ids-next, set-groups-next, drop-n
 use Rattle.claims.proofs.Start.{start-agrees, start-beside}
 
 -- ---- one call
-module _ (by : Translation) (s : State) (h : List Event) (a : Agreed s h) (b : Beside s h) (d : SoundAt h) (o : LiftsAt h) (u : by ≡ byHistory h) (text list buffer : List ℕ) where
+module _ (by : Translation) (s : State) (h : List Event) (a : Agreed s h) (b : Beside s h) (d : SoundAt h) (u : by ≡ byHistory h) (text list buffer : List ℕ) where
   -- its tables agree with the history that it lengthens, and it was allowed
   call-next : (c : Call) → CallFits c → AllSmall list → Next h (happenedBy c text list (answerBy by s c text list buffer .reply)) (answerBy by s c text list buffer .tables)
   unfolding answerBy
-  call-next (Fork c) f l = fork-next by s h a b d o text list c
-  call-next (Clone c) f l = clone-next by s h a b d o text list c
-  call-next (Unshare c) f l = unshare-next by s h a b d o text list c
-  call-next (Setns c n) f l = setns-next by s h a b d o text list c n
+  call-next (Fork c) f l = fork-next by s h a b d text list c
+  call-next (Clone c) f l = clone-next by s h a b d text list c
+  call-next (Unshare c) f l = unshare-next by s h a b d text list c
+  call-next (Setns c n) f l = setns-next by s h a b d text list c n
   call-next (WriteMap k c p) f l = write-map-next by s h a b d u text list k c p
   call-next (WriteSetgroups c p) f l = write-setgroups-next by s h a b d u text list c p
   call-next (ReadMap k c p) f l = nothing-happened s h a b
@@ -130,7 +130,7 @@ unfolding Valid AllTranslate
 step s h r f a =
     let d = sound (events h) (a .valid) in
     let u = levels-history s (events h) (a .agree) d in
-    let n = call-next (byLevels s) s (events h) (a .agree) (a .beside) d (lifts (events h) (a .valid)) u (r .text) (r .list) (r .buffer) (r .call) (f .0) (f .1) in
+    let n = call-next (byLevels s) s (events h) (a .agree) (a .beside) d u (r .text) (r .list) (r .buffer) (r .call) (f .0) (f .1) in
     record {
       agree = n .agree;
       beside = n .beside;

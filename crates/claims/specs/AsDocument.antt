@@ -1,9 +1,13 @@
--- What the code does for speed does not show. It translates by lifted maps, document 01 level by level; and it tests a
+-- What the code does for speed does not show. It translates by kernel starts, document 01 level by level; and it tests a
 -- range by one lookup's count, document 02 by the line that has both ends. On tables that a list of calls leaves it is
--- one, which `as-document` of proofs/AsDocument.antt proves of every list. And the papers' step reads no lifted map:
+-- one, which `as-document` of proofs/AsDocument.antt proves of every list. And the papers' step reads no kernel start:
 -- `unread` of proofs/Unread.antt. Assumes nothing.
 use mathlib.Core.Path.{_≡_}
-use mathlib.Core.List.{List, []}
+use mathlib.Core.List.{List, [], map}
+use lib.ListN.{replicate}
+use Rattle.idmap.specs.Good.{maxLines}
+use Rattle.records.specs.declared.IdMap.{IdMap}
+use Rattle.records.specs.declared.Namespace.{Namespace}
 use Rattle.tables.specs.Tables.{State, initialTables}
 use Rattle.hierarchy.specs.KernelStarts.{byKernelStarts}
 use Rattle.calls.specs.Calls.{Request, Step}
@@ -20,9 +24,23 @@ pub record AsDocument (rs : List Request) : Type 0 where
   pub told : historyFrom byKernelStarts initialTables [] rs ≡ history rs
 
 -- ---- of any tables
--- what stands in them but for what the code keeps beside the maps
+-- a map, a namespace and tables without what the code keeps beside the lines
+abbrev pub bareMap : IdMap → IdMap
+bareMap m = record { state = m .state; lines = m .lines; kernel = replicate maxLines 0 }
+
+abbrev pub bareNamespace : Namespace → Namespace
+bareNamespace n = record {
+  live = n .live;
+  parent = n .parent;
+  level = n .level;
+  owner = n .owner;
+  users = bareMap (n .users);
+  groups = bareMap (n .groups);
+  deny = n .deny;
+}
+
 abbrev pub bare : State → State
-bare s = record { processes = s .processes; namespaces = s .namespaces; liftedUsers = []; liftedGroups = [] }
+bare s = record { processes = s .processes; namespaces = map bareNamespace (s .namespaces) }
 
 abbrev pub bareStep : Step → Step
 bareStep o = record { reply = o .reply; tables = bare (o .tables); buffer = o .buffer }

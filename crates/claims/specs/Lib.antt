@@ -4,7 +4,6 @@ pub mod Translation
 pub mod TopLevel
 pub mod History
 pub mod Agreement
-pub mod LiftedMaps
 pub mod Holds
 pub mod Bounds
 pub mod Refusals

@@ -1,21 +1,20 @@
 -- Setgroups, in the words of the code: each law's premises are what a place knows. Assumes nothing.
-use Prim.Native.Nat.{ℕ, zero, suc, _-_, _≤_, _<_, min}
+use Prim.Native.Nat.{ℕ, suc, _+_, _≤_, _<_}
 use mathlib.Core.Path.{_≡_, refl, sym, ap, _∙_}
 use mathlib.Core.Bool.{Bool, true, false, true≢false}
-use mathlib.Core.List.{List, [], _∷_, _++_, map, map-append}
+use mathlib.Core.List.{List, [], _∷_, _++_}
 use mathlib.Core.Option.{Option, none, some}
 use native.Mathlib.Omega.{arith}
-use lib.Dec.{eqb}
-use lib.ListN.{length, take, replicate, length-map}
-use lib.Seq.{take-at}
+use lib.ListN.{length, take, drop, getD, set, replicate}
+use lib.Seq.{split-at, take-all}
 use borrow.Author.Needs.{needs}
 use borrow.Author.Tests.{lt-ltb, le-ltb}
-use Rattle.prelude.proofs.Tests.{by-test, not-taken, not-left}
+use Rattle.prelude.proofs.Tests.{not-taken, not-left}
 use Rattle.prelude.specs.Lists.{consOf, allOf}
+use Rattle.prelude.proofs.Made.{cons-first, cons-none, cons-some}
 use Rattle.capability.specs.Sets.{capSetgid}
-use Rattle.idmap.specs.Good.{noId}
-use Rattle.idmap.specs.Batch.{batchSize}
-use Rattle.idmap.specs.Lookup.{idOr}
+use Rattle.idmap.specs.declared.Translated.{Translated}
+use Rattle.idmap.specs.declared.Translated.the-variants.{Id, Unmapped}
 use Rattle.records.specs.declared.Kind.the-variants.{Group}
 use Rattle.records.specs.declared.GroupList.{GroupList}
 use Rattle.records.specs.declared.Process.{Process}
@@ -29,70 +28,65 @@ use Rattle.tables.specs.declared.find.Found.the-variants.{At, Nothing}
 use Rattle.tables.specs.declared.answer.Errno.the-variants.{EPERM, ESRCH, EINVAL}
 use Rattle.tables.specs.declared.answer.Answer.the-variants.{Refused, Done}
 use Rattle.tables.proofs.Promises.{refuses, answers}
-use Rattle.hierarchy.specs.Walks.{Translation, itself, capableIn}
+use Rattle.hierarchy.specs.Walks.{Translation, capableIn}
 use Rattle.hierarchy.specs.KernelStarts.{toKernel, byKernelStarts}
-use Rattle.hierarchy.specs.Batch.{eachBy, toKernelEach}
-use Rattle.hierarchy.proofs.Batches.{known-kernel}
 use Rattle.credentials.specs.declared.groups.Listed.{Listed}
-use Rattle.credentials.specs.Batch.{batchOf, allIds}
 use Rattle.credentials.specs.Calls.{toOption, groupList, withList, thenList, kernelGroups, listedOf, setGroupsOf}
+use Rattle.credentials.proofs.Filled.{take-more, filled-more}
 
 -- ---- kernel_groups
+module _ {A B : Type 0} (f : A → Option B) where
+  -- what f gives for each element, with one more
+  all-more : (l : List A) (ys : List B) (a : A) (y : B) → allOf f l ≡ some ys → f a ≡ some y → allOf f (l ++ (a ∷ [])) ≡ some (ys ++ (y ∷ []))
+  unfolding allOf consOf
+  all-more [] ys a y e g = let start : ys ≡ [] = cc in rw (g, start)
+  all-more (b ∷ l) ys a y e g =
+      let r = cons-some (f b) (allOf f l) ys e in
+      rw (r .2, all-more l (r .1) a y (r .3) g) (ap (λ (zs : List B). some (zs ++ (y ∷ []))) (sym (r .4)))
+
+  -- it gives nothing for one
+  all-none : (l : List A) (a : A) (rest : List A) → f a ≡ none → allOf f (l ++ (a ∷ rest)) ≡ none
+  unfolding allOf
+  all-none [] a rest e = rw e (cons-first (allOf f rest))
+  all-none (b ∷ l) a rest e = rw (all-none l a rest e) (cons-none (f b))
+
+-- where all are mapped, the kernel IDs that are listed
+listed-all : (o : Option (List ℕ)) (g : GroupList) → listedOf o ≡ record { mapped = true; groups = g } → (ids : List ℕ) × (o ≡ some ids) × (groupList ids ≡ g)
+listed-all none g e = absurd (true≢false (sym (ap (λ (r : Listed). r .mapped) e)))
+listed-all (some ids) g e = (ids, refl, ap (λ (r : Listed). r .groups) e)
+
 module _ (s : State) (n : ℕ) where
-  -- the kernel ID of a group, or 'no ID'
-  kernelOr : ℕ → ℕ
-  kernelOr x = idOr noId (toKernel s Group n x)
+  -- the first i groups of a list are mapped, and these are their kernel IDs
+  pub ListedTo : List ℕ → List ℕ → ℕ → Type 0
+  ListedTo list ids i = listedOf (kernelGroups (byKernelStarts s) n (take i list)) ≡ record { mapped = true; groups = record { count = i; ids = ids } }
 
-  option-is : (x : ℕ) → toOption (toKernel s Group n x) ≡ toOption (itself (kernelOr x))
-  unfolding kernelOr
-  option-is x = ap toOption (known-kernel s Group n x)
+  abbrev kernelOf : ℕ → Option ℕ
+  kernelOf x = toOption (toKernel s Group n x)
 
-  zeros-ids : (k : ℕ) → allIds (replicate k 0) ≡ true
-  unfolding allIds
-  zeros-ids zero = refl
-  zeros-ids (suc k) = zeros-ids k
+  module _ (list : List ℕ) where
+    pub listed-starts : ListedTo list (replicate maxGroups 0) 0
+    unfolding ListedTo kernelGroups allOf groupList
+    listed-starts = refl
 
-  module _ (k : ℕ) where
-    -- none of them is 'no ID'
-    every-group : (list : List ℕ) → allIds (map kernelOr list ++ replicate k 0) ≡ true → kernelGroups (byKernelStarts s) n list ≡ some (map kernelOr list)
-    unfolding kernelGroups byKernelStarts allOf consOf allIds
-    every-group [] e = refl
-    every-group (x ∷ list) e =
-        by-test (eqb (kernelOr x) noId)
-        (λ t. absurd (true≢false (sym e ∙ rw t)))
-        (λ t. rw (option-is x, t, every-group list (rw t at e)))
+    module _ (i : ℕ) (h : i < length list) (r : Translated) (found : r ≡ toKernel s Group n (getD list i 0)) where
+      pub listed-step : (ids : List ℕ) (x : ℕ) → ListedTo list ids i → length list ≤ maxGroups → r ≡ Id x → ListedTo list (set ids i x) (i + 1)
+      unfolding ListedTo kernelGroups byKernelStarts
+      listed-step ids x inv few e =
+          let so-far = listed-all (allOf kernelOf (take i list)) (record { count = i; ids = ids }) inv in
+          let one : kernelOf (getD list i 0) ≡ some x = rw (← found, e) in
+          rw (take-more list i h, all-more kernelOf (take i list) (so-far .0) (getD list i 0) x (so-far .1) one, filled-more (so-far .0) ids i x (so-far .2) (omega arith))
 
-    -- one is
-    some-group : (list : List ℕ) → allIds (map kernelOr list ++ replicate k 0) ≡ false → kernelGroups (byKernelStarts s) n list ≡ none
-    unfolding kernelGroups byKernelStarts allOf consOf allIds
-    some-group [] e = absurd (true≢false (sym (zeros-ids k) ∙ e))
-    some-group (x ∷ list) e =
-        by-test (eqb (kernelOr x) noId)
-        (λ t. rw (option-is x, t))
-        (λ t. rw (option-is x, t, some-group list (rw t at e)))
+      pub listed-unmapped : r ≡ Unmapped → _≡_ {A = Listed} (record { mapped = false; groups = noGroups }) (listedOf (kernelGroups (byKernelStarts s) n list))
+      unfolding kernelGroups byKernelStarts groupList
+      listed-unmapped e =
+          let one : kernelOf (getD list i 0) ≡ none = rw (← found, e) in
+          let all : allOf kernelOf list ≡ none = ap (allOf kernelOf) (split-at list i 0 h) ∙ all-none kernelOf (take i list) (getD list i 0) (drop (suc i) list) one in
+          rw all
 
-  module _ (list : List ℕ) (few : length list ≤ maxGroups) (given kernel : List ℕ) (groups : GroupList) (t : Bool) (read : given ≡ batchOf list)
-      (found : kernel ≡ toKernelEach s Group n given) (made : groups ≡ groupList (take (min (length list) maxGroups) kernel)) (tested : t ≡ allIds (groups .ids)) where
-    -- the kernel IDs of the list
-    kernel-is : take (min (length list) maxGroups) kernel ≡ map kernelOr list
-    unfolding eachBy batchOf kernelOr
-    kernel-is =
-        let m : min (length list) maxGroups ≡ length list = omega arith in
-        rw (m, found, read, map-append kernelOr list (replicate (batchSize - length list) 0)) (take-at (map kernelOr list) (map kernelOr (replicate (batchSize - length list) 0)) (length list) (length-map list kernelOr))
-
-    groups-are : groups ≡ groupList (map kernelOr list)
-    groups-are = made ∙ ap groupList kernel-is
-
-    ids-are : allIds (map kernelOr list ++ replicate (maxGroups - length (map kernelOr list)) 0) ≡ t
-    unfolding groupList
-    ids-are = sym (tested ∙ rw groups-are)
-
-    pub kernel-listed : t ≡ true → _≡_ {A = Listed} (record { mapped = true; groups = groups }) (listedOf (kernelGroups (byKernelStarts s) n list))
-    kernel-listed e = rw (every-group (maxGroups - length (map kernelOr list)) list (ids-are ∙ e), groups-are)
-
-    pub kernel-unlisted : t ≡ false → _≡_ {A = Listed} (record { mapped = false; groups = noGroups }) (listedOf (kernelGroups (byKernelStarts s) n list))
-    unfolding groupList
-    kernel-unlisted e = sym (ap listedOf (some-group (maxGroups - length (map kernelOr list)) list (ids-are ∙ e)))
+    pub listed-ends : (ids : List ℕ) (i : ℕ) → ListedTo list ids i → length list ≤ i
+        → _≡_ {A = Listed} (record { mapped = true; groups = record { count = i; ids = ids } }) (listedOf (kernelGroups (byKernelStarts s) n list))
+    unfolding ListedTo
+    listed-ends ids i inv h = sym (rw (take-all i list h) at inv)
 
 -- ---- with_list
 pub list-made : (p : Process) (new : GroupList)
@@ -163,8 +157,10 @@ module _ (by : Translation) (l : List ℕ) (c : ℕ) (list : List ℕ) (r : Foun
                 (rw (put, made) (after-some (tablesOf l) i p listed (kernelGroups by (p .namespace) list) got t ∙ sym groups-listed))
 
 pub ruleset grouping = (
-  kernel-listed,
-  kernel-unlisted,
+  listed-starts,
+  listed-step,
+  listed-unmapped,
+  listed-ends,
   list-made,
   groups-nobody,
   groups-incapable,

@@ -1,4 +1,5 @@
 pub mod IdChanges
+pub mod Filled
 pub mod GroupLists
 pub mod OwnIds
 pub mod Capability

@@ -3,7 +3,7 @@
 use mathlib.Core.Path.{_≡_, sym, ap, _∙_}
 use mathlib.Core.Bool.{Bool, true, false, _&&_, true≢false}
 use mathlib.Core.List.{List, [], _∷_}
-use Prim.Native.Nat.{ℕ, zero, suc, _+_, _-_, _%_, _<_, _^_}
+use Prim.Native.Nat.{ℕ, zero, suc, _+_, _-_, _%_, _≤_, _<_, _^_}
 use native.Mathlib.Omega.{arith}
 use lib.Dec.{leb, ltb}
 use lib.ListN.{length, getD}
@@ -20,11 +20,11 @@ use Rattle.idmap.proofs.Goodness.{bounded-of}
 use Rattle.idmap.proofs.Reach.{reach-to-end, reach-has-line}
 
 -- ---- one line has both IDs
-record OneHas (ls : List Line) (x y : ℕ) : Type 0 where
-  which : ℕ
-  in-range : which < length ls
-  first : Within x (getD ls which noLine .inside) (getD ls which noLine .count)
-  last : Within y (getD ls which noLine .inside) (getD ls which noLine .count)
+pub record OneHas (ls : List Line) (x y : ℕ) : Type 0 where
+  pub which : ℕ
+  pub in-range : which < length ls
+  pub first : Within x (getD ls which noLine .inside) (getD ls which noLine .count)
+  pub last : Within y (getD ls which noLine .inside) (getD ls which noLine .count)
 
 has-within : (l : Line) (x : ℕ) → has l x ≡ true → Within x (l .inside) (l .count)
 has-within l x e =
@@ -49,12 +49,21 @@ has-one (l ∷ ls) x y zero h w v = rw (within-has l x w, within-has l y v)
 has-one (l ∷ ls) x y (suc i) h w v =
     by-test (has l x && has l y) (λ t. rw t) (λ t. rw t (has-one ls x y i (omega arith) w v))
 
--- ---- what a range that lies whole says of each of its IDs, on any lines
-pub whole-has-line : (ls : List Line) (start count x : ℕ) → liesWhole ls start count ≡ true → Within x start count → HasLine ls x
+-- ---- what a range that lies whole says of its line, of each of its IDs and of each of its parts, on any lines
+pub whole-in : (ls : List Line) (start count : ℕ) → liesWhole ls start count ≡ true → OneHas ls start (start + count - 1)
 unfolding liesWhole
+whole-in ls start count e = one-has ls start (start + count - 1) (both (ltb 0 count) (oneHas ls start (start + count - 1)) e .1)
+
+pub whole-has-line : (ls : List Line) (start count x : ℕ) → liesWhole ls start count ≡ true → Within x start count → HasLine ls x
 whole-has-line ls start count x e w =
-    let h = one-has ls start (start + count - 1) (both (ltb 0 count) (oneHas ls start (start + count - 1)) e .1) in
+    let h = whole-in ls start count e in
     (h .which, h .in-range, (omega (arith, h .first), omega (arith, h .last)))
+
+pub whole-part : (ls : List Line) (start count from some : ℕ) → liesWhole ls start count ≡ true → 0 < some → start ≤ from → from + some ≤ start + count → liesWhole ls from some ≡ true
+unfolding liesWhole
+whole-part ls start count from some e h a b =
+    let w = whole-in ls start count e in
+    and-i _ _ (lt-ltb 0 some h) (has-one ls from (from + some - 1) (w .which) (w .in-range) (omega (arith, w .first), omega (arith, w .last)) (omega (arith, w .first), omega (arith, w .last)))
 
 -- ---- of a good map a lookup's count decides it
 module _ (ls : List Line) (start count : ℕ) (g : goodOf ls ≡ true) where

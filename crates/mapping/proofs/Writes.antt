@@ -2,16 +2,17 @@
 use Prim.Native.Nat.{ℕ, zero, suc, _+_, _-_, _≤_, _<_}
 use mathlib.Core.Path.{_≡_, refl, sym, ap, _∙_}
 use mathlib.Core.Bool.{Bool, true, false, _&&_}
-use mathlib.Core.List.{List, [], _∷_}
+use mathlib.Core.List.{List, [], _∷_, _++_, map}
 use mathlib.Core.Option.{Option, none, some}
 use native.Mathlib.Omega.{arith}
 use lib.Dec.{eqb}
-use lib.ListN.{length, take, drop, getD, replicate}
-use lib.Seq.{take-append-seam}
+use lib.ListN.{length, take, drop, getD, set, replicate, length-take, length-map, List·getD-map}
+use lib.Seq.{getD-take, take-all, take-append-seam}
 use borrow.Author.Needs.{needs}
 use borrow.Author.Tests.{eq-eqb, ne-eqb, lt-ltb, le-ltb}
 use Rattle.prelude.proofs.Tests.{not-taken, not-left}
-use Rattle.prelude.proofs.Lists.{left-step, left-none}
+use Rattle.prelude.proofs.Made.{length-mapped}
+use Rattle.prelude.proofs.Lists.{left-step, left-none, MadeTo, made-starts, made-step, made-ends}
 use Rattle.idmap.specs.declared.Line.{Line}
 use Rattle.idmap.specs.declared.Translated.{Translated}
 use Rattle.idmap.specs.declared.Translated.the-variants.{Id, Unmapped}
@@ -19,9 +20,9 @@ use Rattle.idmap.specs.declared.text.MapText.{MapText}
 use Rattle.idmap.specs.declared.text.Parsed.the-variants.{Lines, Bad}
 use Rattle.idmap.specs.Line.{noLine, linesIn}
 use Rattle.idmap.specs.Good.{maxLines}
+use Rattle.idmap.specs.Lookup.{orNoId}
 use Rattle.idmap.specs.Ranges.{wholeByReach}
 use Rattle.idmap.specs.Text.{maxTextBytes, mapLines, mapText, padded}
-use Rattle.lifted_map.specs.Lift.{liftedOf, liftedIn}
 use Rattle.records.specs.declared.Kind.{Kind}
 use Rattle.records.specs.declared.Kind.the-variants.{User, Group}
 use Rattle.records.specs.declared.Ids.{Ids}
@@ -29,18 +30,18 @@ use Rattle.records.specs.declared.MapState.the-variants.{Written}
 use Rattle.records.specs.declared.IdMap.{IdMap}
 use Rattle.records.specs.declared.Process.{Process}
 use Rattle.records.specs.declared.Namespace.{Namespace}
-use Rattle.records.specs.Records.{idsIn, mapIn, setIdOf, isWritten, linesOf}
+use Rattle.records.specs.Records.{idsIn, mapIn, setIdOf, isWritten, LinesOf}
 use Rattle.tables.specs.declared.answer.Errno.the-variants.{EPERM, ESRCH, EINVAL}
 use Rattle.tables.specs.declared.answer.Answer.{Answer}
 use Rattle.tables.specs.declared.answer.Answer.the-variants.{Refused, Done}
 use Rattle.tables.specs.declared.find.Found.{Found}
 use Rattle.tables.specs.declared.find.Found.the-variants.{At, Nothing}
-use Rattle.tables.specs.Tables.{State, tablesOf, processAt, namespaceAt, liftedAt, putNamespace, putLiftedMap}
+use Rattle.tables.specs.Tables.{State, tablesOf, processAt, namespaceAt, putNamespace}
 use Rattle.tables.specs.Find.{callerNamed, processNamed}
 use Rattle.tables.specs.Reply.{Outcome, Promise}
 use Rattle.tables.proofs.Promises.{refuses, answers}
 use Rattle.hierarchy.specs.Walks.{Translation, capableIn}
-use Rattle.hierarchy.specs.KernelStarts.{toKernel, wholeIn, byKernelStarts}
+use Rattle.hierarchy.specs.KernelStarts.{toKernel, wholeIn, byKernelStarts, kernelStarts}
 use Rattle.mapping.specs.Calls.{isNear, isId, mayByKind, singleLine, mayMap, allWhole, withMap, writtenMap, mappedTables, writeLinesTo, writeMapTo, writeMapOf}
 
 -- ---- near
@@ -132,6 +133,41 @@ module _ (above ls : List Line) (n i : ℕ) (inv : allWhole (wholeByReach above)
     pub whole-no : t ≡ false → false ≡ allWhole whole (take n ls)
     whole-no y = sym (rw y at whole-at)
 
+-- ---- kernel_starts
+module _ (out : ℕ → Translated) (ls : List Line) (n : ℕ) where
+  abbrev start : Line → ℕ
+  start l = orNoId (out (l .parent))
+
+  -- the first i are kept
+  pub StartsTo : List ℕ → ℕ → Type 0
+  StartsTo r i = MadeTo maxLines 0 (map start (take n ls)) r i
+
+  pub starts-none : StartsTo (replicate maxLines 0) 0
+  unfolding StartsTo
+  starts-none = made-starts maxLines 0 (map start (take n ls))
+
+  module _ (r : List ℕ) (i : ℕ) (inv : StartsTo r i) (long : length r ≡ maxLines) (all : length ls ≡ maxLines) where
+    pub starts-step : (t : Translated) (v : ℕ) → i < maxLines → i < n → t ≡ out (getD ls i noLine .parent) → v ≡ orNoId t → StartsTo (set r i v) (i + 1)
+    unfolding StartsTo
+    starts-step t v h k e q =
+        let room : i < length (take n ls) = simp length-take (omega arith) in
+        let many : i < length (map start (take n ls)) = rw (length-map (take n ls) start) room in
+        let here : getD (map start (take n ls)) i (start noLine) ≡ v = List·getD-map start (take n ls) i noLine ∙ rw (getD-take n ls i noLine k, ← e, q) in
+        rw here at (made-step maxLines 0 (map start (take n ls)) r i inv long (start noLine) h many)
+
+    -- all are, and there are i
+    starts-all : length (take n ls) ≡ i → i ≤ maxLines → r ≡ kernelStarts out (take n ls)
+    unfolding StartsTo kernelStarts
+    starts-all h k =
+        made-ends maxLines 0 (map start (take n ls)) r i inv long k
+        ∙ rw (← h) (ap (λ (l : List ℕ). l ++ replicate (maxLines - length (take n ls)) 0) (take-all (length (take n ls)) (map start (take n ls)) (omega (arith, length-map (take n ls) start))))
+
+    pub starts-past : i ≤ n → i ≤ maxLines → n ≤ i → r ≡ kernelStarts out (take n ls)
+    starts-past h k p = starts-all (simp length-take (omega arith)) k
+
+    pub starts-end : i ≤ n → i ≤ maxLines → maxLines ≤ i → r ≡ kernelStarts out (take n ls)
+    starts-end h k p = starts-all (simp length-take (omega arith)) k
+
 -- ---- with_map
 module _ (kind : Kind) (n : Namespace) (m : IdMap) where
   pub with-users : kind ≡ User → _≡_ {A = Namespace} (record { live = n .live; parent = n .parent; level = n .level; owner = n .owner; users = m; groups = n .groups; deny = n .deny }) (withMap kind n m)
@@ -165,6 +201,10 @@ module _ (l text : List ℕ) (kind : Kind) (w : Process) (n : ℕ) (m : Namespac
   abbrev by : Translation
   by = byKernelStarts (tablesOf l)
 
+  by-starts : by .out ≡ toKernel (tablesOf l)
+  unfolding byKernelStarts
+  by-starts = refl
+
   pub lines-bad : r .parsed ≡ Bad → Promise (Refused EINVAL) l l (writeLinesTo by (tablesOf l) kind w n text)
   unfolding writeLinesTo
   lines-bad e =
@@ -175,36 +215,33 @@ module _ (l text : List ℕ) (kind : Kind) (w : Process) (n : ℕ) (m : Namespac
     read-lines : mapLines text ≡ some (take k (r .lines))
     read-lines = rw f (lines-some (mapLines text) k (rw f at v) .0)
 
-    read-map : _≡_ {A = IdMap} (record { state = Written k; lines = r .lines }) (writtenMap (take k (r .lines)))
-    read-map =
+    read-map : (kernel : List ℕ) → _≡_ {A = IdMap} (record { state = Written k; lines = r .lines; kernel = kernel }) (writtenMap (take k (r .lines)) kernel)
+    read-map kernel =
         rw f
         (let h = lines-some (mapLines text) k (rw f at v) in
-        λ i. record { state = Written (sym (h .1) i); lines = h .2 i })
+        λ i. record { state = Written (sym (h .1) i); lines = h .2 i; kernel = kernel })
 
     module _ (t : Bool) (q : t ≡ mayMap by (tablesOf l) kind w m (take k (r .lines))) where
       pub lines-denied : t ≡ false → Promise (Refused EPERM) l l (writeLinesTo by (tablesOf l) kind w n text)
       unfolding writeLinesTo
       lines-denied y = refuses EPERM l (writeLinesTo by (tablesOf l) kind w n text) (sym (rw (read-lines, ← tgt, ← q, y)))
 
-      module _ (y : t ≡ true) (ws : List ℕ) (above : linesIn ws ≡ linesOf (mapIn kind (namespaceAt (tablesOf l) (m .parent)))) (u : Bool) (g : u ≡ allWhole (wholeByReach (linesIn ws)) (take k (r .lines))) where
+      module _ (y : t ≡ true) (ws : List ℕ) (above : LinesOf ws (mapIn kind (namespaceAt (tablesOf l) (m .parent)))) (u : Bool) (g : u ≡ allWhole (wholeByReach (linesIn ws)) (take k (r .lines))) where
         whole-above : u ≡ allWhole (by .whole kind (m .parent)) (take k (r .lines))
         unfolding byKernelStarts wholeIn
-        whole-above = rw above at g
+        whole-above = rw (above .written) at g
 
         pub lines-not-whole : u ≡ false → Promise (Refused EPERM) l l (writeLinesTo by (tablesOf l) kind w n text)
         unfolding writeLinesTo
         lines-not-whole z = refuses EPERM l (writeLinesTo by (tablesOf l) kind w n text) (sym (rw (read-lines, ← tgt, ← q, y, ← whole-above, z)))
 
-        pub lines-done : (new : Namespace) (l′ l″ lifted : List ℕ) (ls : List Line) (b : ℕ) → u ≡ true
-            → ls ≡ liftedAt (tablesOf l) kind (m .parent) .lines → b ≡ liftedAt (tablesOf l) kind (m .parent) .base
-            → liftedIn lifted ≡ liftedOf (record { base = b; lines = ls }) (m .parent) (take k (r .lines))
-            → new ≡ withMap kind m (record { state = Written k; lines = r .lines })
-            → tablesOf l′ ≡ putNamespace (tablesOf l) n new → tablesOf l″ ≡ putLiftedMap (tablesOf l′) kind n (liftedIn lifted)
-            → Promise Done l l″ (writeLinesTo by (tablesOf l) kind w n text)
+        pub lines-done : (kernel : List ℕ) (new : Namespace) (l′ : List ℕ) → u ≡ true → kernel ≡ kernelStarts (toKernel (tablesOf l) kind (m .parent)) (take k (r .lines))
+            → new ≡ withMap kind m (record { state = Written k; lines = r .lines; kernel = kernel }) → tablesOf l′ ≡ putNamespace (tablesOf l) n new
+            → Promise Done l l′ (writeLinesTo by (tablesOf l) kind w n text)
         unfolding writeLinesTo mappedTables
-        lines-done new l′ l″ lifted ls b z high low c e p p′ =
-            answers Done l l″ (writeLinesTo by (tablesOf l) kind w n text) refl
-            (rw (read-lines, ← tgt, ← q, y, ← whole-above, z, p′, p, e, read-map, c, high, low))
+        lines-done kernel new l′ z c e p =
+            answers Done l l′ (writeLinesTo by (tablesOf l) kind w n text) refl
+            (rw (read-lines, ← tgt, ← q, y, ← whole-above, z, p, e, read-map kernel, c, by-starts))
 
 -- ---- write_to
 -- a promise of one outcome is one of an equal outcome
@@ -280,6 +317,8 @@ pub ruleset tests = (
 )
 
 pub ruleset wholly = (whole-past, whole-end, whole-step, whole-no, not-taken, not-left, needs)
+
+pub ruleset starting = (starts-none, starts-step, starts-past, starts-end, length-mapped, needs)
 
 pub ruleset writing = (
   lines-bad,

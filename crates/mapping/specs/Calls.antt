@@ -29,7 +29,7 @@ use Rattle.tables.specs.Reply.{Reply, refused, done, bytes, Outcome, refuse, on
 use Rattle.mapping.specs.declared.setgroups.Setting.{Setting}
 use Rattle.mapping.specs.declared.setgroups.Setting.the-variants.{Deny, Allow, Neither}
 use Rattle.hierarchy.specs.Walks.{Translation, capableIn}
-use Rattle.hierarchy.specs.KernelStarts.{beside}
+use Rattle.hierarchy.specs.KernelStarts.{kernelStarts}
 
 -- ---- map write
 -- the writer is in namespace n, the target, or in its parent
@@ -64,8 +64,8 @@ unfoldable pub allWhole : (ℕ → ℕ → Bool) → List Line → Bool
 allWhole whole [] = true
 allWhole whole (l ∷ ls) = whole (l .parent) (l .count) && allWhole whole ls
 
-abbrev pub writtenMap : List Line → IdMap
-writtenMap ls = record { state = Written (length ls); lines = padded ls }
+abbrev pub writtenMap : List Line → List ℕ → IdMap
+writtenMap ls kernel = record { state = Written (length ls); lines = padded ls; kernel = kernel }
 
 unfoldable pub withMap : Kind → Namespace → IdMap → Namespace
 withMap User n m = record { live = n .live; parent = n .parent; level = n .level; owner = n .owner; users = m; groups = n .groups; deny = n .deny }
@@ -76,9 +76,9 @@ thenLines none other next = other
 thenLines (some ls) other next = next ls
 
 -- what a write stores: the map, and what the code keeps beside it
-unfoldable pub mappedTables : State → Kind → ℕ → List Line → State
-mappedTables s kind n ls =
-    beside s (putNamespace s n (withMap kind (namespaceAt s n) (writtenMap ls))) kind n ls
+unfoldable pub mappedTables : Translation → State → Kind → ℕ → List Line → State
+mappedTables by s kind n ls =
+    putNamespace s n (withMap kind (namespaceAt s n) (writtenMap ls (kernelStarts (by .out kind (namespaceAt s n .parent)) ls)))
 
 -- the lines of the text, the writer's right to them, and that each lies in a line above; then the map is stored
 unfoldable pub writeLinesTo : Translation → State → Kind → Process → ℕ → List ℕ → Outcome
@@ -86,7 +86,7 @@ writeLinesTo by s kind w n text =
     thenLines (mapLines text) (refuse s 22) (λ ls.
     unless (mayMap by s kind w (namespaceAt s n) ls) (refuse s 1)
     (unless (allWhole (by .whole kind (namespaceAt s n .parent)) ls) (refuse s 1)
-    (record { reply = done; tables = mappedTables s kind n ls })))
+    (record { reply = done; tables = mappedTables by s kind n ls })))
 
 -- the write to namespace n by process w
 unfoldable pub writeMapTo : Translation → State → Kind → Process → ℕ → List ℕ → Outcome

@@ -5,20 +5,19 @@ ghost use Rattle.idmap.specs.Line.{linesIn};
 ghost use Rattle.idmap.specs.Ranges.{wholeByReach};
 ghost use Rattle.tables.specs.Tables.{tablesOf, namespaceAt};
 ghost use Rattle.tables.specs.Reply.{Promise};
-ghost use Rattle.hierarchy.specs.KernelStarts.{byKernelStarts, quick};
+ghost use Rattle.hierarchy.specs.KernelStarts.{toKernel, byKernelStarts, quick, kernelStarts};
 ghost use Rattle.mapping.specs.Calls.{isNear, isId, mayByKind, singleLine, mayMap, allWhole, withMap, writeLinesTo, writeMapTo, writeMapOf};
 use hierarchy::capable::capable;
 use hierarchy::translate::to_kernel;
 use idmap::Line;
 use idmap::MAX_LINES;
 use idmap::MAX_TEXT_BYTES;
+use idmap::NO_ID;
 use idmap::Translated;
+use idmap::lookup::id_or;
 use idmap::range::lies_whole;
 use idmap::text::Parsed;
 use idmap::text::parse_map;
-use lifted_map::LIFTED_WIDTH;
-use lifted_map::LiftedMap;
-use lifted_map::lift::lift;
 use records::IdMap;
 use records::Kind;
 use records::MapState;
@@ -34,9 +33,6 @@ use tables::answer::Errno;
 use tables::find::Found;
 use tables::find::find_caller;
 use tables::find::named_process;
-use tables::lifted_maps::lifted_base;
-use tables::lifted_maps::lifted_lines;
-use tables::lifted_maps::lifted_map_put;
 use tables::namespaces::map_lines;
 use tables::namespaces::namespace_at;
 use tables::namespaces::namespace_put;
@@ -139,6 +135,29 @@ fn all_whole(above: &[u64], lines: [Line; MAX_LINES], count: usize) -> bool
     true
 }
 
+// The kernel ID that the parent start of each of the lines stands for, which is kept beside it. 0 in the other places.
+fn kernel_starts(
+    t: &Tables,
+    kind: Kind,
+    parent: u64,
+    lines: [Line; MAX_LINES],
+    count: usize,
+) -> [u32; MAX_LINES]
+    ensures { λ r. ⌜ r ≡ kernelStarts (toKernel (tablesOf (now (t .entry))) kind parent) (take count lines) ⌝ }
+{
+    let mut kernel: [u32; MAX_LINES] = [0; MAX_LINES];
+    let mut i: usize = 0;
+    while i < MAX_LINES {
+        if count <= i {
+            return kernel;
+        }
+        let l = lines[i];
+        kernel[i] = id_or(to_kernel(t, kind, parent, l.parent), NO_ID);
+        i += 1;
+    }
+    kernel
+}
+
 fn with_map(kind: Kind, n: Namespace, map: IdMap) -> Namespace
     ensures { λ r. ⌜ r ≡ withMap kind n map ⌝ }
 {
@@ -194,16 +213,13 @@ fn write_lines(
     if !all_whole(map_lines(t, target.parent as usize, kind), lines, count) {
         return Answer::Refused(Errno::EPERM);
     }
+    let kernel = kernel_starts(t, kind, target.parent, lines, count);
     let map = IdMap {
         state: MapState::Written(count),
         lines: lines,
+        kernel: kernel,
     };
-    let above = lifted_lines(t, target.parent as usize, kind);
-    let base = lifted_base(t, target.parent as usize, kind);
-    let mut lifted: LiftedMap = [0; LIFTED_WIDTH];
-    lift(&mut lifted, above, base, target.parent, lines, count);
     namespace_put(t, n as usize, with_map(kind, target, map));
-    lifted_map_put(t, kind, n as usize, &lifted);
     Answer::Done
 }
 

@@ -64,6 +64,13 @@ take-map f zero xs = refl
 take-map f (suc n) [] = refl
 take-map {B = B} f (suc n) (x ∷ xs) = ap (λ (l : List B). f x ∷ l) (take-map f n xs)
 
+pub zip-take : {A B C : Type 0} (f : A → B → C) (n : ℕ) (xs : List A) (ys : List B) → take n (zipWith f xs ys) ≡ zipWith f (take n xs) ys
+unfolding zipWith
+zip-take f zero xs ys = refl
+zip-take f (suc n) [] ys = refl
+zip-take f (suc n) (x ∷ xs) [] = refl
+zip-take {C = C} f (suc n) (x ∷ xs) (y ∷ ys) = ap (λ (l : List C). f x y ∷ l) (zip-take f n xs ys)
+
 -- a loop that joins them: the first i are in place
 module _ {A B C : Type 0} (f : A → B → C) (xs : List A) (ys : List B) (t : List C) (i n : ℕ) (front : take i t ≡ take i (zipWith f xs ys)) (long : length t ≡ n)
     (one : length xs ≡ n) (other : length ys ≡ n) where

@@ -10,6 +10,7 @@ use borrow.Author.Needs.{needs}
 use borrow.Author.Tests.{eq-eqb, ne-eqb}
 use Rattle.prelude.specs.Parts.{part}
 use Rattle.prelude.specs.Lists.{tab}
+use Rattle.prelude.proofs.Lists.{zip-take}
 use Rattle.prelude.proofs.Made.{tab-same, tab-next, tab-front, tab-whole}
 use Rattle.idmap.specs.declared.Line.{Line}
 use Rattle.idmap.specs.Line.{lineWords, insideColumn, parentColumn, countColumn, kernelColumn, lineAt, linesBy, linesIn, kernelLinesIn}
@@ -76,17 +77,17 @@ module _ (ws r : List ℕ) (long : length ws ≡ mapWidth) where
     pub written-some : n < maxLines → r ≡ part (n * lineWords) firstLineAt ws → LinesOf r (mapOf ws)
     written-some h q = record {
       written = some-lines n parentColumn (omega arith) h q ∙ rw (eq-eqb (getD ws 0 0) 1 t, ← e);
-      kernel = some-lines n kernelColumn (omega arith) h q ∙ rw (eq-eqb (getD ws 0 0) 1 t, ← e) (ap (take n) (kernel-places ws));
+      kernel = some-lines n kernelColumn (omega arith) h q ∙ rw (eq-eqb (getD ws 0 0) 1 t, ← e) (ap (take n) (kernel-places ws) ∙ zip-take onKernel n (mapOf ws .lines) (mapOf ws .kernel));
     }
 
     pub written-all : maxLines ≤ n → r ≡ part (lineWords * maxLines) firstLineAt ws → LinesOf r (mapOf ws)
     written-all h q = record {
       written = all-lines n parentColumn (omega arith) h q ∙ rw (eq-eqb (getD ws 0 0) 1 t, ← e);
-      kernel = all-lines n kernelColumn (omega arith) h q ∙ rw (eq-eqb (getD ws 0 0) 1 t, ← e) (ap (take n) (kernel-places ws));
+      kernel = all-lines n kernelColumn (omega arith) h q ∙ rw (eq-eqb (getD ws 0 0) 1 t, ← e) (ap (take n) (kernel-places ws) ∙ zip-take onKernel n (mapOf ws .lines) (mapOf ws .kernel));
     }
 
   pub written-none : (getD ws 0 0 ≡ 1 → ⊥) → r ≡ part 0 firstLineAt ws → LinesOf r (mapOf ws)
-  unfolding part linesBy
+  unfolding part linesBy zipWith
   written-none t q = record {
     written = ap linesIn q ∙ rw (ne-eqb (getD ws 0 0) 1 t);
     kernel = ap kernelLinesIn q ∙ rw (ne-eqb (getD ws 0 0) 1 t);
@@ -97,7 +98,7 @@ pub lines-whole : (ws r : List ℕ) → length ws ≡ mapWidth → LinesOf r (ma
 lines-whole ws r h e = subst (LinesOf r) (sym (map-whole ws h)) e
 
 pub lines-other : (ws r : List ℕ) → (length ws ≡ mapWidth → ⊥) → r ≡ part 0 0 ws → LinesOf r (mapFrom ws)
-unfolding part linesBy
+unfolding part linesBy zipWith
 lines-other ws r h e = subst (LinesOf r) (sym (map-other ws h)) (record { written = ap linesIn e; kernel = ap kernelLinesIn e })
 
 pub ruleset lines = (written-some, written-all, written-none, lines-whole, lines-other, needs)

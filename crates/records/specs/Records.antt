@@ -190,7 +190,7 @@ onKernel l y = record { inside = l .inside; parent = y; count = l .count }
 
 -- the lines of a map with the kernel IDs on the parent side
 abbrev pub kernelLinesOf : IdMap → List Line
-kernelLinesOf m = linesIf (m .state) (zipWith onKernel (m .lines) (m .kernel))
+kernelLinesOf m = zipWith onKernel (linesOf m) (m .kernel)
 
 -- words hold the lines of a map, and the same with the kernel IDs on the parent side
 pub record LinesOf (ws : List ℕ) (m : IdMap) : Type 0 where

@@ -1,7 +1,7 @@
 -- The written lines of a namespace's map, and their kernel starts, where they stand in the tables. Assumes nothing.
 use Prim.Native.Nat.{ℕ, _+_, _-_, _*_, _≤_, _<_}
 use mathlib.Core.Path.{_≡_, refl, sym, ap, _∙_, subst}
-use mathlib.Core.List.{List, []}
+use mathlib.Core.List.{List, [], zipWith}
 use native.Mathlib.Omega.{arith}
 use lib.ListN.{length, take, drop}
 use mir.Val.{Fits}
@@ -20,7 +20,7 @@ use Rattle.tables.specs.Tables.{namespacePlaces, namespacesAt, tablesWid
 -- ---- map_lines
 -- a namespace past the table has no lines, of either kind
 no-lines : (k : Kind) → LinesOf [] (mapIn k freeNamespace)
-unfolding linesBy
+unfolding linesBy zipWith
 no-lines User = record { written = refl; kernel = refl }
 no-lines Group = record { written = refl; kernel = refl }
 

@@ -11,6 +11,7 @@ own-ids-spec =
     (λ c. search showing)  -- enum-told
     (λ c. search showing)  -- returns
     (λ c κs. search showing)  -- process-at-requires
-    (λ c κs. search showing)  -- seen-users-requires
+    (λ c κs. search showing)  -- seen-ids-requires
+    (λ c κs. search showing)  -- seen-ids-requires-2
     (λ c κs. search showing)  -- seen-groups-requires
     (λ c. search showing))  -- returns-2
