@@ -24,7 +24,7 @@ extern "C" {
 #endif
 
 /* The words of the tables. */
-#define OARHATCHET_TABLES 18880
+#define OARHATCHET_TABLES 6592
 /* The most supplementary groups of a process. */
 #define OARHATCHET_MAX_GROUPS 16
 /* The words that oarhatchet_getids writes: six IDs, and a place for each group. */

@@ -11,7 +11,7 @@
 use crate::groups::MAX_GROUPS;
 
 /// The words of the tables.
-pub const WORDS: usize = 18880;
+pub const WORDS: usize = 6592;
 pub type Words = [u64; WORDS];
 
 /// What the own-ID question writes: six IDs, and a place for each group.

@@ -93,6 +93,23 @@ module _ (s : State) (isP isN : ℕ → Bool) (place up level : ℕ → ℕ) (ma
       namespace-state = λ k i. after-namespace (λ (r : Namespace). mapIn k r .state) (λ (j : ℕ). stateFor (maps k j)) i (a .namespace-state k i) ∙ o k i;
     }
 
+  -- what the code keeps beside the maps does not matter
+  pub keeps-tables : (us gs : List (List ℕ)) → Agrees (record { processes = s .processes; namespaces = s .namespaces; userStarts = us; groupStarts = gs }) isP isN place up level maps carries
+  unfolding processAt namespaceAt
+  keeps-tables us gs = record {
+    process-places = a .process-places;
+    namespace-places = a .namespace-places;
+    process-live = a .process-live;
+    process-place = a .process-place;
+    process-ids = a .process-ids;
+    process-count = a .process-count;
+    namespace-live = a .namespace-live;
+    namespace-parent = a .namespace-parent;
+    namespace-level = a .namespace-level;
+    namespace-map = a .namespace-map;
+    namespace-state = a .namespace-state;
+  }
+
 -- ---- a map's record has the lines of its history
 lines-of : (m : IdMap) → orNone (writtenIn m) ≡ linesOf m
 lines-of m = by-state (m .state) (m .lines)

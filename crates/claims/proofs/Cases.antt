@@ -16,7 +16,7 @@ use Rattle.idmap.specs.declared.Translated.the-variants.{Id, Unmapped}
 use Rattle.idmap.specs.Text.{mapLines, maxTextBytes}
 use Rattle.records.specs.declared.Kind.{Kind}
 use Rattle.records.specs.declared.Ids.{Ids}
-use Rattle.records.specs.Records.{idsIn, mapIn, setIdOf, isWritten, maxGroups}
+use Rattle.records.specs.Records.{idsIn, mapIn, setIdOf, isWritten, withDeny, maxGroups}
 use Rattle.tables.specs.declared.find.Found.{Found}
 use Rattle.tables.specs.declared.find.Found.the-variants.{At, Nothing}
 use Rattle.tables.specs.Tables.{State, processAt, namespaceAt, putProcess, putNamespace, maxLevel}
@@ -24,7 +24,7 @@ use Rattle.tables.specs.Find.{processNamed, namespaceNamed, freeProcessPlace, f
 use Rattle.tables.specs.Reply.{done, child, childIn, newNamespace, Outcome, refuse, onFound}
 use Rattle.hierarchy.specs.Walks.{Translation, capableIn}
 use Rattle.process.specs.Calls.{forkOf, knowsItself, entered, makesNamespace, withChild, cloneOf, unshareOf, setnsOf}
-use Rattle.mapping.specs.Calls.{isNear, mayMap, allWhole, mappedTables, thenLines, writeLinesTo, writeMapTo, writeMapOf, withDeny, settingIn, thenSetting, writeSetgroupsTo, writeSetgroupsOf}
+use Rattle.mapping.specs.Calls.{isNear, mayMap, allWhole, mappedTables, thenLines, writeLinesTo, writeMapTo, writeMapOf, settingIn, thenSetting, writeSetgroupsTo, writeSetgroupsOf}
 use Rattle.credentials.specs.Calls.{chosen, thenThree, withIds, mayTake, setIdsOf, groupList, withList, thenList, kernelGroups, setGroupsOf, withSets, dropOf}
 use Rattle.claims.specs.TopLevel.{Has}
 use Rattle.claims.specs.Refusals.{refusalNumbers}

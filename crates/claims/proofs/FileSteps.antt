@@ -22,14 +22,14 @@ use Rattle.records.specs.declared.Namespace.{Namespace}
 use Rattle.records.specs.declared.MapState.{MapState}
 use Rattle.records.specs.declared.MapState.the-variants.{Unwritten, Written}
 use Rattle.records.specs.declared.IdMap.{IdMap}
-use Rattle.records.specs.Records.{mapIn, isWritten}
+use Rattle.records.specs.Records.{mapIn, isWritten, withMap, withDeny}
 use Rattle.tables.specs.declared.find.Found.the-variants.{At}
-use Rattle.tables.specs.Tables.{State, processAt, namespaceAt, putNamespace}
+use Rattle.tables.specs.Tables.{State, processAt, namespaceAt, startsAt, putNamespace, putMap}
 use Rattle.tables.specs.Find.{processNamed, callerNamed}
 use Rattle.hierarchy.specs.Walks.{Translation}
 use Rattle.hierarchy.specs.KernelStarts.{kernelStarts}
 use Rattle.idmap.proofs.Goodness.{good-first, good-others}
-use Rattle.mapping.specs.Calls.{allWhole, writtenMap, withMap, mappedTables, writeMapOf, withDeny, writeSetgroupsOf}
+use Rattle.mapping.specs.Calls.{allWhole, writtenMap, mappedTables, writeMapOf, writeSetgroupsOf}
 use Rattle.calls.specs.declared.Call.the-variants.{WriteMap, WriteSetgroups}
 use Rattle.claims.specs.Events.{Event, other, mapped}
 use Rattle.claims.specs.Words.{isProcess, isNamespace, placeOf, parentOf, levelOf, writtenOf, writtenLines, standsFor, heldOf, sameKind}
@@ -39,9 +39,9 @@ use Rattle.claims.proofs.Allowed.{Maps, SoundAt}
 use Rattle.claims.proofs.HistoryLevels.{is-stands}
 use Rattle.claims.proofs.Kept.{out-kept}
 use Rattle.claims.proofs.KernelStarts.{Started, started-kept, goes-out}
-use Rattle.claims.proofs.Beside.{StartsAt, startsIn, Beside, starts-kept, stores-beside}
+use Rattle.claims.proofs.Beside.{StartedAt, Beside, starts-kept, keeps-beside, stores-beside}
 use Rattle.claims.proofs.Stores.{cond-ap, namespace-in-range}
-use Rattle.claims.proofs.Agree.{picked-same, stores-namespace, caller-live, caller-place}
+use Rattle.claims.proofs.Agree.{picked-same, stores-namespace, keeps-tables, caller-live, caller-place}
 use Rattle.claims.proofs.Sound.{Counted, map-lines-good, map-lines-counted, none-whole, same-kind, deep}
 use Rattle.prelude.proofs.Tests.{by-test, and-left, and-right}
 use Rattle.claims.proofs.Steps.{Next, nothing-happened, After}
@@ -81,9 +81,9 @@ deny-map User n b = refl
 deny-map Group n b = refl
 
 -- a map that is written with lines has them
-written-lines : (ls : List Line) (starts : List ℕ) → writtenIn (writtenMap ls starts) ≡ some ls
+written-lines : (ls : List Line) → writtenIn (writtenMap ls) ≡ some ls
 unfolding padded
-written-lines ls starts = ap some (take-append-seam ls (replicate (maxLines - length ls) noLine))
+written-lines ls = ap some (take-append-seam ls (replicate (maxLines - length ls) noLine))
 
 -- the lines of a text are some
 some-lines : (text : List ℕ) (ls : List Line) → mapLines text ≡ some ls → 0 < length ls
@@ -106,21 +106,21 @@ module _ (by : Translation) (s : State) (h : List Event) (a : Agreed s h) (b : B
     target-live = a .namespace-live (processAt s p .namespace) ∙ rw (caller-place s h a name p e) (d .placed name (caller-live s h a name p e))
 
     -- the maps after a write: those of the other kind and of other namespaces are as they were
-    maps-after : (j k : Kind) (ls : List Line) (starts : List ℕ) → mapLines text ≡ some ls → (i : ℕ)
-        → cond (eqb i (processAt s p .namespace)) (writtenIn (mapIn k (withMap j (namespaceAt s (processAt s p .namespace)) (writtenMap ls starts)))) (writtenOf k h i) ≡ cond (sameKind k j && eqb i (placeOf h name)) (mapLines text) (writtenOf k h i)
+    maps-after : (j k : Kind) (ls : List Line) → mapLines text ≡ some ls → (i : ℕ)
+        → cond (eqb i (processAt s p .namespace)) (writtenIn (mapIn k (withMap j (namespaceAt s (processAt s p .namespace)) (writtenMap ls)))) (writtenOf k h i) ≡ cond (sameKind k j && eqb i (placeOf h name)) (mapLines text) (writtenOf k h i)
     unfolding withMap
-    maps-after User User ls starts m i = rw (caller-place s h a name p e, m, written-lines ls starts)
-    maps-after Group Group ls starts m i = rw (caller-place s h a name p e, m, written-lines ls starts)
-    maps-after User Group ls starts m i = picked-same (writtenOf Group h) i (processAt s p .namespace) _ (a .namespace-map Group (processAt s p .namespace))
-    maps-after Group User ls starts m i = picked-same (writtenOf User h) i (processAt s p .namespace) _ (a .namespace-map User (processAt s p .namespace))
+    maps-after User User ls m i = rw (caller-place s h a name p e, m, written-lines ls)
+    maps-after Group Group ls m i = rw (caller-place s h a name p e, m, written-lines ls)
+    maps-after User Group ls m i = picked-same (writtenOf Group h) i (processAt s p .namespace) _ (a .namespace-map Group (processAt s p .namespace))
+    maps-after Group User ls m i = picked-same (writtenOf User h) i (processAt s p .namespace) _ (a .namespace-map User (processAt s p .namespace))
 
-    states-after : (j k : Kind) (ls : List Line) (starts : List ℕ) → mapLines text ≡ some ls → (i : ℕ)
-        → cond (eqb i (processAt s p .namespace)) (mapIn k (withMap j (namespaceAt s (processAt s p .namespace)) (writtenMap ls starts)) .state) (stateFor (writtenOf k h i)) ≡ stateFor (cond (sameKind k j && eqb i (placeOf h name)) (mapLines text) (writtenOf k h i))
+    states-after : (j k : Kind) (ls : List Line) → mapLines text ≡ some ls → (i : ℕ)
+        → cond (eqb i (processAt s p .namespace)) (mapIn k (withMap j (namespaceAt s (processAt s p .namespace)) (writtenMap ls)) .state) (stateFor (writtenOf k h i)) ≡ stateFor (cond (sameKind k j && eqb i (placeOf h name)) (mapLines text) (writtenOf k h i))
     unfolding withMap
-    states-after User User ls starts m i = rw (caller-place s h a name p e, m) (sym (cond-ap stateFor (eqb i (placeOf h name)) (some ls) (writtenOf User h i)))
-    states-after Group Group ls starts m i = rw (caller-place s h a name p e, m) (sym (cond-ap stateFor (eqb i (placeOf h name)) (some ls) (writtenOf Group h i)))
-    states-after User Group ls starts m i = picked-same (λ (n : ℕ). stateFor (writtenOf Group h n)) i (processAt s p .namespace) _ (a .namespace-state Group (processAt s p .namespace))
-    states-after Group User ls starts m i = picked-same (λ (n : ℕ). stateFor (writtenOf User h n)) i (processAt s p .namespace) _ (a .namespace-state User (processAt s p .namespace))
+    states-after User User ls m i = rw (caller-place s h a name p e, m) (sym (cond-ap stateFor (eqb i (placeOf h name)) (some ls) (writtenOf User h i)))
+    states-after Group Group ls m i = rw (caller-place s h a name p e, m) (sym (cond-ap stateFor (eqb i (placeOf h name)) (some ls) (writtenOf Group h i)))
+    states-after User Group ls m i = picked-same (λ (n : ℕ). stateFor (writtenOf Group h n)) i (processAt s p .namespace) _ (a .namespace-state Group (processAt s p .namespace))
+    states-after Group User ls m i = picked-same (λ (n : ℕ). stateFor (writtenOf User h n)) i (processAt s p .namespace) _ (a .namespace-state User (processAt s p .namespace))
 
     -- the namespace above is that of the history, and so are its lines and what its IDs stand for
     up-is : namespaceAt s (processAt s p .namespace) .parent ≡ parentOf h (placeOf h name)
@@ -132,15 +132,6 @@ module _ (by : Translation) (s : State) (h : List Event) (a : Agreed s h) (b : B
 
     out-is : (k : Kind) → by .out k (namespaceAt s (processAt s p .namespace) .parent) ≡ standsFor k h (parentOf h (placeOf h name))
     out-is k = (λ i. o i .out k (namespaceAt s (processAt s p .namespace) .parent)) ∙ ap (λ (m : ℕ). standsFor k h m) up-is
-
-    -- the kernel starts after a write: those of the other kind and of other namespaces are as they were
-    starts-after : (j k : Kind) (m : IdMap) (i : ℕ)
-        → cond (eqb i (processAt s p .namespace)) (startsIn k (withMap j (namespaceAt s (processAt s p .namespace)) m)) (startsIn k (namespaceAt s i)) ≡ cond (sameKind k j && eqb i (placeOf h name)) (m .kernel) (startsIn k (namespaceAt s i))
-    unfolding withMap
-    starts-after User User m i = rw (caller-place s h a name p e)
-    starts-after Group Group m i = rw (caller-place s h a name p e)
-    starts-after User Group m i = picked-same (λ (n : ℕ). startsIn Group (namespaceAt s n)) i (processAt s p .namespace) _ refl
-    starts-after Group User m i = picked-same (λ (n : ℕ). startsIn User (namespaceAt s n)) i (processAt s p .namespace) _ refl
 
     module _ (k : Kind) (ls : List Line) (m : mapLines text ≡ some ls) (w : isWritten (mapIn k (namespaceAt s (processAt s p .namespace)) .state) ≡ false)
         (c : allWhole (by .whole k (namespaceAt s (processAt s p .namespace) .parent)) ls ≡ true) where
@@ -166,36 +157,34 @@ module _ (by : Translation) (s : State) (h : List Event) (a : Agreed s h) (b : B
           started-kept (OutOf k h up) _ (λ x y r. out-kept (mapped k name text) h allowed d k up x y r) ls _
           (rw (out-is k) (starts-stand h d k up ls (replicate (maxLines - length ls) 0) all-whole (rw m at (map-lines-good text))))
 
-      starts-written : (j : Kind) (i : ℕ) → StartsAt (mapped k name text ∷ h) j i (cond (sameKind j k && eqb i (placeOf h name)) starts (startsIn j (namespaceAt s i)))
+      -- those of the other kind and of other namespaces are kept
+      starts-after : (j : Kind) (i : ℕ) → StartedAt (mapped k name text ∷ h) j i (cond (sameKind j k && eqb i (placeOf h name)) starts (startsAt s j i))
       unfolding writtenOf
-      starts-written j i =
+      starts-after j i =
           by-test (sameKind j k && eqb i (placeOf h name))
           (λ t.
           let r = same-kind j k (and-left (sameKind j k) (eqb i (placeOf h name)) t) in
           let u = eqb-true i (placeOf h name) (and-right (sameKind j k) (eqb i (placeOf h name)) t) in
           rw (t, m) (subst (λ (v : Kind × ℕ). Started (OutOf (v .0) (mapped k name text ∷ h) (parentOf (mapped k name text ∷ h) (v .1))) ls starts) (λ z. (sym r z, sym u z)) new-starts))
-          (λ t. rw t (starts-kept (mapped k name text) h allowed d j i (startsIn j (namespaceAt s i)) (b j i)))
-
-      mapped-beside : Beside (mappedTables by s k (processAt s p .namespace) ls) (mapped k name text ∷ h)
-      unfolding mappedTables
-      mapped-beside =
-          let n = processAt s p .namespace in
-          stores-beside s (mapped k name text ∷ h) n (withMap k (namespaceAt s n) (writtenMap ls starts)) (namespace-in-range s n target-live) (λ j i.
-          rw (starts-after k j (writtenMap ls starts) i) (starts-written j i))
+          (λ t. rw t (starts-kept (mapped k name text) h allowed d j i (startsAt s j i) (b .started j i)))
 
       mapped-next : Next h (mapped k name text) (mappedTables by s k (processAt s p .namespace) ls)
-      unfolding mappedTables isProcess isNamespace placeOf parentOf levelOf writtenOf heldOf
+      unfolding mappedTables putMap startsAt isProcess isNamespace placeOf parentOf levelOf writtenOf heldOf
       mapped-next =
           let n = processAt s p .namespace in
-          let new = writtenMap ls starts in
+          let new = withMap k (namespaceAt s n) (writtenMap ls) in
+          let there = namespace-in-range s n target-live in
           record {
-            agree = stores-namespace s _ _ _ _ _ _ _ a n (withMap k (namespaceAt s n) new) (namespace-in-range s n target-live) _ _ _ _
-                (λ i. picked-same (isNamespace h) i n _ (map-live k (namespaceAt s n) new ∙ a .namespace-live n))
-                (λ i. picked-same (parentOf h) i n _ (map-parent k (namespaceAt s n) new ∙ a .namespace-parent n))
-                (λ i. picked-same (levelOf h) i n _ (map-level k (namespaceAt s n) new ∙ a .namespace-level n))
-                (λ j i. maps-after k j ls starts m i)
-                (λ j i. states-after k j ls starts m i);
-            beside = mapped-beside;
+            agree = keeps-tables (putNamespace s n new) _ _ _ _ _ _ _
+                (stores-namespace s _ _ _ _ _ _ _ a n new there _ _ _ _
+                (λ i. picked-same (isNamespace h) i n _ (map-live k (namespaceAt s n) (writtenMap ls) ∙ a .namespace-live n))
+                (λ i. picked-same (parentOf h) i n _ (map-parent k (namespaceAt s n) (writtenMap ls) ∙ a .namespace-parent n))
+                (λ i. picked-same (levelOf h) i n _ (map-level k (namespaceAt s n) (writtenMap ls) ∙ a .namespace-level n))
+                (λ j i. maps-after k j ls m i)
+                (λ j i. states-after k j ls m i))
+                _ _;
+            beside = stores-beside (putNamespace s n new) k n starts (b .places) (let q = a .namespace-places in omega arith) (mapped k name text ∷ h)
+                (λ j i. subst (λ (v : ℕ). StartedAt (mapped k name text ∷ h) j i (cond (sameKind j k && eqb i v) starts (startsAt s j i))) (sym (caller-place s h a name p e)) (starts-after j i));
             allowed = allowed;
           }
 
@@ -211,8 +200,7 @@ module _ (by : Translation) (s : State) (h : List Event) (a : Agreed s h) (b : B
         (λ i. picked-same (levelOf h) i n _ (a .namespace-level n))
         (λ k i. picked-same (writtenOf k h) i n _ (ap writtenIn (deny-map k (namespaceAt s n) t) ∙ a .namespace-map k n))
         (λ k i. picked-same (λ (i : ℕ). stateFor (writtenOf k h i)) i n _ (ap (λ (m : IdMap). m .state) (deny-map k (namespaceAt s n) t) ∙ a .namespace-state k n)))
-        (stores-beside s h n (withDeny (namespaceAt s n) t) (namespace-in-range s n target-live) (λ k i.
-        rw (picked-same (λ (m : ℕ). startsIn k (namespaceAt s m)) i n (startsIn k (withDeny (namespaceAt s n) t)) (ap (λ (m : IdMap). m .kernel) (deny-map k (namespaceAt s n) t))) (b k i)))
+        (keeps-beside s h b _ _)
 
   pub write-map-next : (k : Kind) (c name : ℕ) → After h (WriteMap k c name) text list (writeMapOf by s k c name text)
   write-map-next k c name =

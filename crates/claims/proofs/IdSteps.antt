@@ -161,7 +161,7 @@ module _ (by : Translation) (s : State) (h : List Event) (a : Agreed s h) (b : B
             (λ m. picked-same (λ (r : ℕ). placeOf h (suc r)) m i _ (ids-place by k (processAt s i) after ∙ a .process-place i))
             held-after
             count-after;
-        beside = keeps-beside s h i (withIds by k (processAt s i) after) b;
+        beside = keeps-beside s h b _ _;
         allowed = record {
           caller = caller-live s h a c i e;
           real = record { small = u; given = x; stands = stands-x };
@@ -183,7 +183,7 @@ module _ (by : Translation) (s : State) (h : List Event) (a : Agreed s h) (b : B
       nothing-happened _ h
       (keeps-process s _ _ _ _ _ _ _ a i (withSets (processAt s i) permitted effective) (process-in-range s i (named s c i e .1)) refl refl
       (λ k. sets-ids k (processAt s i) permitted effective) refl)
-      (keeps-beside s h i (withSets (processAt s i) permitted effective) b))
+      (keeps-beside s h b _ _))
 
   -- ---- setgroups
   module _ (c i : ℕ) (e : callerNamed s c ≡ At i) (l : List ℕ) (f : kernelGroups by (processAt s i .namespace) list ≡ some l) where
@@ -220,7 +220,7 @@ module _ (by : Translation) (s : State) (h : List Event) (a : Agreed s h) (b : B
           (λ m. picked-same (λ (r : ℕ). placeOf h (suc r)) m i _ (a .process-place i))
           groups-after
           group-count;
-      beside = keeps-beside s h i (withList (processAt s i) (groupList l)) b;
+      beside = keeps-beside s h b _ _;
       allowed = record { caller = caller-live s h a c i e; few = few; each = groups-stand h (placeOf h c) list l f all-stand };
     }
 

@@ -2,26 +2,25 @@
 use Prim.Native.Nat.{ℕ, zero, suc}
 use mathlib.Core.Path.{_≡_, refl, sym, ap, _∙_, subst}
 use mathlib.Core.Bool.{Bool, true, false, cond}
-use mathlib.Core.List.{List, []}
-use mathlib.Core.Option.{Option, none}
+use mathlib.Core.List.{[]}
+use mathlib.Core.Option.{none}
 use native.Mathlib.Omega.{arith}
 use lib.Dec.{eqb}
 use lib.ListN.{length, getD, replicate, length-replicate}
 use borrow.Author.Tests.{eqb-true}
-use Rattle.idmap.specs.declared.Line.{Line}
 use Rattle.records.specs.declared.Kind.{Kind}
 use Rattle.records.specs.declared.Kind.the-variants.{User, Group}
 use Rattle.records.specs.declared.Process.{Process}
 use Rattle.records.specs.declared.MapState.the-variants.{Unwritten}
 use Rattle.records.specs.declared.Namespace.{Namespace}
-use Rattle.records.specs.Records.{freeProcess, freeNamespace, mapIn, zeroIds}
-use Rattle.tables.specs.Tables.{State, processAt, namespaceAt, putProcess, firstProcess, rootNamespace, initialTables, processPlaces, namespacePlaces}
+use Rattle.records.specs.Records.{freeProcess, freeNamespace, mapIn, zeroIds, noStarts}
+use Rattle.tables.specs.Tables.{State, processAt, namespaceAt, startsBy, startsAt, putProcess, firstProcess, rootNamespace, initialTables, processPlaces, namespacePlaces}
 use Rattle.prelude.proofs.Tests.{by-test}
 use Rattle.claims.specs.Words.{isProcess, isNamespace, placeOf, parentOf, levelOf, writtenOf, orNone, writtenLines, heldOf}
 use Rattle.claims.specs.Agreement.{heldIn, writtenIn, stateFor, Agrees, Agreed}
 use Rattle.claims.specs.Translation.{top}
 use Rattle.claims.proofs.KernelStarts.{Started}
-use Rattle.claims.proofs.Beside.{StartsAt, startsIn, Beside, no-starts, stores-beside}
+use Rattle.claims.proofs.Beside.{StartedAt, Beside, no-lines}
 use Rattle.claims.proofs.Stores.{next-number}
 use Rattle.claims.proofs.Agree.{stores-process, stores-namespace}
 
@@ -31,7 +30,7 @@ all-same x (suc n) zero = refl
 all-same x (suc n) (suc i) = all-same x n i
 
 abbrev empty : State
-empty = record { processes = replicate processPlaces freeProcess; namespaces = replicate namespacePlaces freeNamespace }
+empty = record { processes = replicate processPlaces freeProcess; namespaces = replicate namespacePlaces freeNamespace; userStarts = replicate namespacePlaces noStarts; groupStarts = replicate namespacePlaces noStarts }
 
 free-ids : (k : Kind) → heldIn k freeProcess ≡ record { three = zeroIds; supplementary = [] }
 free-ids User = refl
@@ -97,19 +96,30 @@ start-agrees =
     root-state
 
 -- ---- the kernel starts: the fixed line stands for itself
-root-starts : (k : Kind) → StartsAt [] k 0 (startsIn k rootNamespace)
+first-starts : (k : Kind) (n : ℕ) → startsAt initialTables k n ≡ noStarts
+unfolding initialTables startsAt
+first-starts User n = all-same noStarts namespacePlaces n
+first-starts Group n = all-same noStarts namespacePlaces n
+
+first-places : (k : Kind) → length (startsBy k initialTables) ≡ namespacePlaces
+unfolding initialTables
+first-places User = length-replicate namespacePlaces noStarts
+first-places Group = length-replicate namespacePlaces noStarts
+
+root-started : (k : Kind) → StartedAt [] k 0 noStarts
 unfolding Started writtenOf parentOf
-root-starts User = (top {x = 0} {y = 0} refl refl (omega arith), tt)
-root-starts Group = (top {x = 0} {y = 0} refl refl (omega arith), tt)
+root-started k = (top {x = 0} {y = 0} refl refl (omega arith), tt)
 
 none-written : (k : Kind) (n : ℕ) → eqb n 0 ≡ false → writtenOf k [] n ≡ none
 unfolding writtenOf
 none-written k n t = rw t
 
 pub start-beside : Beside initialTables []
-unfolding initialTables
-start-beside =
-    stores-beside (putProcess empty 0 firstProcess) [] 0 rootNamespace (rw (length-replicate) (omega arith)) (λ k n.
-    by-test (eqb n 0)
-    (λ t. rw t (subst (λ (m : ℕ). StartsAt [] k m (startsIn k rootNamespace)) (sym (eqb-true n 0 t)) (root-starts k)))
-    (λ t. no-starts _ (writtenLines k [] n) _ (ap (λ (o : Option (List Line)). length (orNone o)) (none-written k n t))))
+start-beside = record {
+  places = first-places;
+  started = λ k n.
+      rw (first-starts k n)
+      (by-test (eqb n 0)
+      (λ t. subst (λ (m : ℕ). StartedAt [] k m noStarts) (sym (eqb-true n 0 t)) (root-started k))
+      (λ t. no-lines _ (writtenLines k [] n) _ (ap orNone (none-written k n t))));
+}

@@ -1,7 +1,7 @@
 -- Fork, clone, unshare and setns, and the reads and questions: what each leaves agrees with its history, and it was
 -- allowed. Assumes nothing.
 use Prim.Native.Nat.{ℕ, zero, suc, _+_}
-use mathlib.Core.Path.{_≡_, refl, sym, ap, _∙_, subst}
+use mathlib.Core.Path.{_≡_, refl, sym, ap, _∙_}
 use mathlib.Core.Bool.{Bool, true, false, cond, true≢false}
 use mathlib.Core.List.{List, _∷_}
 use mathlib.Core.Option.{Option, none}
@@ -28,17 +28,16 @@ use Rattle.calls.specs.declared.Call.{Call}
 use Rattle.calls.specs.declared.Call.the-variants.{Fork, Clone, Unshare, Setns}
 use Rattle.prelude.proofs.Tests.{by-test, and-left}
 use Rattle.claims.specs.Events.{Event, other, forked, cloned, unshared, joined}
-use Rattle.claims.specs.Words.{Held, isProcess, isNamespace, placeOf, parentOf, levelOf, writtenOf, orNone, writtenLines, heldOf}
+use Rattle.claims.specs.Words.{Held, isProcess, isNamespace, placeOf, parentOf, levelOf, writtenOf, orNone, heldOf}
 use Rattle.claims.specs.Translation.{here, deeper}
-use Rattle.claims.specs.TopLevel.{IsUnder, OutOf}
+use Rattle.claims.specs.TopLevel.{IsUnder}
 use Rattle.claims.specs.History.{happenedBy}
 use Rattle.claims.specs.Agreement.{heldIn, writtenIn, stateFor, Agrees, Agreed}
 use Rattle.claims.proofs.Allowed.{Allowed, SoundAt, NewProcess, NewNamespace}
-use Rattle.claims.proofs.KernelStarts.{Started}
-use Rattle.claims.proofs.Beside.{startsIn, Beside, no-starts, starts-kept, keeps-beside, stores-beside}
+use Rattle.claims.proofs.Beside.{Beside, event-kept, keeps-beside, clears-beside}
 use Rattle.claims.proofs.Stores.{cond-ap, named, space-named, free-process, free-namespace, process-in-range, next-number, same-number}
 use Rattle.claims.proofs.Cases.{fork-case, clone-case, unshare-case, setns-case}
-use Rattle.claims.proofs.Agree.{picked-same, stores-process, stores-namespace, caller-is, caller-live, caller-place, caller-ids, caller-count}
+use Rattle.claims.proofs.Agree.{picked-same, stores-process, stores-namespace, keeps-tables, caller-is, caller-live, caller-place, caller-ids, caller-count}
 
 -- the tables after an event agree with the history that it lengthens, and it was allowed
 pub record Next (h : List Event) (e : Event) (t : State) : Type 0 where
@@ -69,7 +68,7 @@ module _ (by : Translation) (s : State) (h : List Event) (a : Agreed s h) (b : B
         (λ j. rw (next-number j q, caller-place s h a c i e))
         (λ k j. rw (next-number j q, caller-ids s h a c i e k))
         (λ j. count-after j q c i e);
-    beside = keeps-beside s h q (processAt s i) b;
+    beside = keeps-beside s h b _ _;
     allowed = record {
       caller = caller-live s h a c i e;
       unused = sym (a .process-live q) ∙ free-process s q f .1;
@@ -122,22 +121,22 @@ module _ (by : Translation) (s : State) (h : List Event) (a : Agreed s h) (b : B
         (λ (k : Kind). writtenOf k h) (λ (k : Kind). heldOf k h)
     unfolding below
     with-child =
-        stores-namespace s _ _ _ _ _ _ _ a n child (free-namespace s n g .0) _ _ _ _
+        keeps-tables (putNamespace s n child) _ _ _ _ _ _ _
+        (stores-namespace s _ _ _ _ _ _ _ a n child (free-namespace s n g .0) _ _ _ _
         (λ i. refl)
         (λ i. rw (caller-place s h a c p e))
         (λ i. rw (level-above, add-one))
         (λ k i. picked-same (writtenOf k h) i n (writtenIn (mapIn k child)) (fresh-map k (processAt s p) own ∙ sym (d .made k n unused)))
-        (λ k i. picked-same (λ (m : ℕ). stateFor (writtenOf k h m)) i n (mapIn k child .state) (fresh-state k (processAt s p) own ∙ ap stateFor (sym (d .made k n unused))))
+        (λ k i. picked-same (λ (m : ℕ). stateFor (writtenOf k h m)) i n (mapIn k child .state) (fresh-state k (processAt s p) own ∙ ap stateFor (sym (d .made k n unused)))))
+        _ _
 
     -- it has no lines, and the kernel starts of every other one are kept
     child-beside : (new : Event) → Allowed h new → ((k : Kind) → writtenOf k (new ∷ h) ≡ writtenOf k h) → Beside (withChild s p n) (new ∷ h)
     child-beside new allowed same =
-        stores-beside s (new ∷ h) n child (free-namespace s n g .0) (λ k i.
-        let kept = starts-kept new h allowed d k i (startsIn k (namespaceAt s i)) (b k i) in
-        subst (λ (w : ℕ → Option (List Line)). Started (OutOf k (new ∷ h) (parentOf (new ∷ h) i)) (orNone (w i)) (cond (eqb i n) (startsIn k child) (startsIn k (namespaceAt s i)))) (sym (same k))
-        (by-test (eqb i n)
-        (λ t. no-starts _ (writtenLines k h i) _ (ap (λ (o : Option (List Line)). length (orNone o)) (ap (writtenOf k h) (eqb-true i n t) ∙ d .made k n unused)))
-        (λ t. rw t kept)))
+        clears-beside (putNamespace s n child) (new ∷ h) n
+        (let r = free-namespace s n g .0 in let q = a .namespace-places in omega arith)
+        (λ k. ap (λ (w : ℕ → Option (List Line)). orNone (w n)) (same k) ∙ ap orNone (d .made k n unused))
+        (keeps-beside s (new ∷ h) (event-kept new h allowed d s same b) _ _)
 
     new-child : (q : ℕ) → freeProcessPlace s ≡ At q → NewProcess h c (processNumber q) × NewNamespace h c n
     new-child q f = (
@@ -157,7 +156,7 @@ module _ (by : Translation) (s : State) (h : List Event) (a : Agreed s h) (b : B
           (λ j. rw (next-number j q))
           (λ k j. rw (next-number j q, entered-ids k (processAt s p) n, caller-ids s h a c p e k))
           (λ j. count-after j q c p e);
-      beside = keeps-beside (withChild s p n) (cloned c (processNumber q) n ∷ h) q (entered (processAt s p) n) (child-beside (cloned c (processNumber q) n) (new-child q f) (λ k. refl));
+      beside = keeps-beside (withChild s p n) (cloned c (processNumber q) n ∷ h) (child-beside (cloned c (processNumber q) n) (new-child q f) (λ k. refl)) _ _;
       allowed = new-child q f;
     }
 
@@ -169,7 +168,7 @@ module _ (by : Translation) (s : State) (h : List Event) (a : Agreed s h) (b : B
           (λ j. rw (same-number j c p (caller-is s h a c p e)))
           (λ k j. picked-same (λ (i : ℕ). heldOf k h (suc i)) j p (heldIn k (entered (processAt s p) n)) (entered-ids k (processAt s p) n ∙ a .process-ids k p))
           (λ j. picked-same (λ (i : ℕ). length (heldOf Group h (suc i) .supplementary)) j p (processAt s p .supplementary .count) (a .process-count p));
-      beside = keeps-beside (withChild s p n) (unshared c n ∷ h) p (entered (processAt s p) n) (child-beside (unshared c n) new-namespace (λ k. refl));
+      beside = keeps-beside (withChild s p n) (unshared c n ∷ h) (child-beside (unshared c n) new-namespace (λ k. refl)) _ _;
       allowed = new-namespace;
     }
 
@@ -206,7 +205,7 @@ module _ (by : Translation) (s : State) (h : List Event) (a : Agreed s h) (b : B
         (λ j. rw (same-number j c p (caller-is s h a c p e), space-named s p name n f .0))
         (λ k j. picked-same (λ (i : ℕ). heldOf k h (suc i)) j p (heldIn k (entered (processAt s p) n)) (entered-ids k (processAt s p) n ∙ a .process-ids k p))
         (λ j. picked-same (λ (i : ℕ). length (heldOf Group h (suc i) .supplementary)) j p (processAt s p .supplementary .count) (a .process-count p));
-    beside = keeps-beside s h p (entered (processAt s p) n) b;
+    beside = keeps-beside s h b _ _;
     allowed = record {
       caller = caller-live s h a c p e;
       target = rw (space-named s p name n f .0) (sym (a .namespace-live n) ∙ space-named s p name n f .1);

@@ -1,7 +1,7 @@
 -- Reads after stores, at every place, and what the finds find. Assumes nothing.
 use Prim.Native.Nat.{ℕ, suc, _+_, _-_, _≤_, _<_}
 use mathlib.Core.Path.{_≡_, refl, sym, ap, _∙_}
-use mathlib.Core.Bool.{Bool, true, false, cond, true≢false}
+use mathlib.Core.Bool.{Bool, true, false, cond, _&&_, true≢false}
 use mathlib.Core.List.{List, [], _∷_}
 use native.Mathlib.Omega.{arith}
 use lib.Dec.{eqb, ltb}
@@ -10,11 +10,14 @@ use lib.Seq.{getD-set-same, getD-set-other}
 use borrow.Author.Tests.{eq-eqb, eqb-true, eqb-false, ltb-true, ltb-false}
 use Rattle.records.specs.declared.Process.{Process}
 use Rattle.records.specs.declared.Namespace.{Namespace}
-use Rattle.records.specs.Records.{freeProcess, freeNamespace}
+use Rattle.records.specs.declared.Kind.{Kind}
+use Rattle.records.specs.declared.Kind.the-variants.{User, Group}
+use Rattle.records.specs.Records.{freeProcess, freeNamespace, noStarts}
 use Rattle.tables.specs.declared.find.Found.the-variants.{At, Nothing}
-use Rattle.tables.specs.Tables.{State, processAt, namespaceAt, putProcess, putNamespace}
+use Rattle.tables.specs.Tables.{State, processAt, namespaceAt, startsBy, startsAt, putProcess, putNamespace, putStarts}
 use Rattle.tables.specs.Find.{callerNamed, processNamed, namespaceNamed, freeFrom, freeProcessPlace, freeNamespacePlace, processNumber}
 use Rattle.prelude.proofs.Tests.{by-test, test-same}
+use Rattle.claims.specs.Words.{sameKind}
 
 -- a function of what a test picks
 pub cond-ap : {A B : Type 0} (f : A → B) (t : Bool) (x y : A) → f (cond t x y) ≡ cond t (f x) (f y)
@@ -35,6 +38,13 @@ read-process s q p i h = stored-or-kept (s .processes) q p freeProcess i h
 pub read-namespace : (s : State) (q : ℕ) (n : Namespace) (i : ℕ) → q < length (s .namespaces) → namespaceAt (putNamespace s q n) i ≡ cond (eqb i q) n (namespaceAt s i)
 unfolding namespaceAt
 read-namespace s q n i h = stored-or-kept (s .namespaces) q n freeNamespace i h
+
+pub read-starts : (s : State) (j : Kind) (q : ℕ) (ys : List ℕ) (k : Kind) (i : ℕ) → q < length (startsBy j s) → startsAt (putStarts s j q ys) k i ≡ cond (sameKind k j && eqb i q) ys (startsAt s k i)
+unfolding startsAt
+read-starts s User q ys User i h = stored-or-kept (s .userStarts) q ys noStarts i h
+read-starts s User q ys Group i h = refl
+read-starts s Group q ys User i h = refl
+read-starts s Group q ys Group i h = stored-or-kept (s .groupStarts) q ys noStarts i h
 
 -- ---- what is live is in range, since a place past the end is free
 live-in-range : {A : Type 0} (live : A → Bool) (l : List A) (free : A) → live free ≡ false → (i : ℕ) → live (getD l i free) ≡ true → i < length l

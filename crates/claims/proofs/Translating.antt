@@ -2,7 +2,7 @@
 use Prim.Native.Nat.{ℕ, zero, suc, _<_, _%_, _^_}
 use mathlib.Core.Path.{_≡_, sym, ap, _∙_}
 use mathlib.Core.Bool.{true}
-use mathlib.Core.List.{List, [], map, zipWith}
+use mathlib.Core.List.{List, [], map}
 use native.Mathlib.Omega.{arith}
 use lib.Dec.{eqb}
 use borrow.Author.Tests.{eq-eqb, ne-eqb, eqb-true, eqb-false}
@@ -14,8 +14,8 @@ use Rattle.idmap.specs.Good.{noId, goodOf}
 use Rattle.idmap.proofs.Translation.{two-answers, out-low, out-back}
 use Rattle.idmap.proofs.Ranges.{whole-by-reach}
 use Rattle.records.specs.declared.Kind.{Kind}
-use Rattle.records.specs.Records.{onKernel}
-use Rattle.tables.specs.Tables.{State, namespaceAt}
+use Rattle.records.specs.Records.{onKernels}
+use Rattle.tables.specs.Tables.{State, startsAt}
 use Rattle.hierarchy.specs.Walks.{Translation, heightOf, itself}
 use Rattle.hierarchy.specs.KernelStarts.{kernelLinesAt, toKernel, fromKernel, wholeIn, byKernelStarts}
 use Rattle.prelude.proofs.Tests.{by-test}
@@ -30,7 +30,7 @@ use Rattle.claims.proofs.Levels.{by-translated, nothing-out}
 use Rattle.claims.proofs.Allowed.{SoundAt}
 use Rattle.claims.proofs.HistoryLevels as History
 use Rattle.claims.proofs.KernelStarts.{kernel-lookup, kernel-good}
-use Rattle.claims.proofs.Beside.{StartsAt, startsIn, Beside}
+use Rattle.claims.proofs.Beside.{StartedAt, Beside}
 
 -- ---- lookups count the low 32 bits of an ID
 low-out : (up : ℕ → ℕ) (lines : ℕ → List Line) (k n x : ℕ) → (n ≡ 0 → ⊥) → outBy up lines k n (x % 2 ^ 32) ≡ outBy up lines k n x
@@ -89,9 +89,9 @@ module _ (h : List Event) (d : SoundAt h) (k : Kind) where
       nothing-out (parentOf h) (writtenLines k h) (levelOf h n) n x z e ∙ sym (rw e))
 
   -- ---- by the kernel starts of the lines
-  module _ (n : ℕ) (z : n ≡ 0 → ⊥) (ys : List ℕ) (r : StartsAt h k n ys) where
+  module _ (n : ℕ) (z : n ≡ 0 → ⊥) (ys : List ℕ) (r : StartedAt h k n ys) where
     abbrev kernelLines : List Line
-    kernelLines = zipWith onKernel (writtenLines k h n) ys
+    kernelLines = onKernels (writtenLines k h n) ys
 
     lookup-stands : (x : ℕ) → x < 2 ^ 32 → out kernelLines x ≡ standsFor k h n x
     lookup-stands x small =
@@ -121,8 +121,8 @@ module _ (h : List Event) (d : SoundAt h) (k : Kind) where
 
 -- ---- so translation by the tables is that by the history
 module _ (s : State) (h : List Event) (a : Agreed s h) (d : SoundAt h) (b : Beside s h) (k : Kind) where
-  kernel-lines : (n : ℕ) → kernelLinesAt s k n ≡ zipWith onKernel (writtenLines k h n) (startsIn k (namespaceAt s n))
-  kernel-lines n = ap (λ (ls : List Line). zipWith onKernel ls (startsIn k (namespaceAt s n))) (lines-agree s h a k n)
+  kernel-lines : (n : ℕ) → kernelLinesAt s k n ≡ onKernels (writtenLines k h n) (startsAt s k n)
+  kernel-lines n = ap (λ (ls : List Line). onKernels ls (startsAt s k n)) (lines-agree s h a k n)
 
   pub stands-agrees : (n x : ℕ) → toKernel s k n x ≡ standsFor k h n x
   unfolding toKernel
@@ -132,8 +132,8 @@ module _ (s : State) (h : List Event) (a : Agreed s h) (d : SoundAt h) (b : Besi
       (λ t.
       let z = eqb-false n 0 t in
       rw (t, kernel-lines n)
-      (sym (out-low (zipWith onKernel (writtenLines k h n) (startsIn k (namespaceAt s n))) x)
-      ∙ lookup-stands h d k n z (startsIn k (namespaceAt s n)) (b k n) (x % 2 ^ 32) (omega arith)
+      (sym (out-low (onKernels (writtenLines k h n) (startsAt s k n)) x)
+      ∙ lookup-stands h d k n z (startsAt s k n) (b .started k n) (x % 2 ^ 32) (omega arith)
       ∙ low-out (parentOf h) (writtenLines k h) (levelOf h n) n x z))
 
   pub returns-agrees : (n y : ℕ) → fromKernel s k n y ≡ backBy (parentOf h) (writtenLines k h) (levelOf h n) n y
@@ -144,8 +144,8 @@ module _ (s : State) (h : List Event) (a : Agreed s h) (d : SoundAt h) (b : Besi
       (λ t.
       let z = eqb-false n 0 t in
       rw (t, kernel-lines n)
-      (sym (out-low (map flip (zipWith onKernel (writtenLines k h n) (startsIn k (namespaceAt s n)))) y)
-      ∙ lookup-returns h d k n z (startsIn k (namespaceAt s n)) (b k n) (y % 2 ^ 32) (omega arith)
+      (sym (out-low (map flip (onKernels (writtenLines k h n) (startsAt s k n))) y)
+      ∙ lookup-returns h d k n z (startsAt s k n) (b .started k n) (y % 2 ^ 32) (omega arith)
       ∙ low-back (parentOf h) (writtenLines k h) (d .good k) (levelOf h n) n y z))
 
 -- ---- the translation of a history, which is the level by level one of the tables

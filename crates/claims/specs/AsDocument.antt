@@ -3,11 +3,7 @@
 -- one, which `as-document` of proofs/AsDocument.antt proves of every list. And the papers' step reads no kernel start:
 -- `unread` of proofs/Unread.antt. Assumes nothing.
 use mathlib.Core.Path.{_≡_}
-use mathlib.Core.List.{List, [], map}
-use lib.ListN.{replicate}
-use Rattle.idmap.specs.Good.{maxLines}
-use Rattle.records.specs.declared.IdMap.{IdMap}
-use Rattle.records.specs.declared.Namespace.{Namespace}
+use mathlib.Core.List.{List, []}
 use Rattle.tables.specs.Tables.{State, initialTables}
 use Rattle.hierarchy.specs.KernelStarts.{byKernelStarts}
 use Rattle.calls.specs.Calls.{Request, Step}
@@ -24,23 +20,9 @@ pub record AsDocument (rs : List Request) : Type 0 where
   pub told : historyFrom byKernelStarts initialTables [] rs ≡ history rs
 
 -- ---- of any tables
--- a map, a namespace and tables without what the code keeps beside the lines
-abbrev pub bareMap : IdMap → IdMap
-bareMap m = record { state = m .state; lines = m .lines; kernel = replicate maxLines 0 }
-
-abbrev pub bareNamespace : Namespace → Namespace
-bareNamespace n = record {
-  live = n .live;
-  parent = n .parent;
-  level = n .level;
-  owner = n .owner;
-  users = bareMap (n .users);
-  groups = bareMap (n .groups);
-  deny = n .deny;
-}
-
+-- what stands in them but for what the code keeps beside the maps
 abbrev pub bare : State → State
-bare s = record { processes = s .processes; namespaces = map bareNamespace (s .namespaces) }
+bare s = record { processes = s .processes; namespaces = s .namespaces; userStarts = []; groupStarts = [] }
 
 abbrev pub bareStep : Step → Step
 bareStep o = record { reply = o .reply; tables = bare (o .tables); buffer = o .buffer }

@@ -114,10 +114,10 @@ line inside parent count = record { inside = inside; parent = parent; count = co
 
 -- the maps of a namespace: both unwritten, only the one of a kind written, or both written alike
 abbrev pub unwritten : Kind → IdMap
-unwritten kind = record { state = Unwritten; lines = replicate 5 noLine; kernel = replicate 5 0 }
+unwritten kind = record { state = Unwritten; lines = replicate 5 noLine }
 
 abbrev pub written : List Line → IdMap
-written ls = record { state = Written (length ls); lines = ls ++ replicate (5 - length ls) noLine; kernel = replicate 5 0 }
+written ls = record { state = Written (length ls); lines = ls ++ replicate (5 - length ls) noLine }
 
 abbrev pub only : Kind → List Line → Kind → IdMap
 only User ls User = written ls
@@ -254,7 +254,7 @@ scenarios =
 
 -- ---- what is said of the table
 -- what comes out of calls: the calls with their answers, newest first, and the tables at the end but for what the code
--- keeps beside the lines
+-- keeps beside the maps
 pub record Result : Type 0 where
   pub told : List Entry
   pub tables : State
@@ -272,6 +272,8 @@ expected c = record {
   tables = record {
     processes = c .processes ++ replicate (processPlaces - length (c .processes)) freeProcess;
     namespaces = c .namespaces ++ replicate (namespacePlaces - length (c .namespaces)) freeNamespace;
+    userStarts = [];
+    groupStarts = [];
   };
 }
 

@@ -11,7 +11,7 @@ use Rattle.idmap.specs.Line.{kernelLinesIn}
 use Rattle.idmap.specs.Lookup.{out, back}
 use Rattle.records.specs.declared.Kind.{Kind}
 use Rattle.records.specs.Records.{mapIn, LinesOf}
-use Rattle.tables.specs.Tables.{State, namespaceAt}
+use Rattle.tables.specs.Tables.{State, namespaceAt, startsAt}
 use Rattle.hierarchy.specs.Walks.{itself}
 use Rattle.hierarchy.specs.KernelStarts.{kernelLinesAt, toKernel, fromKernel}
 
@@ -32,7 +32,7 @@ module _ (s : State) (kind : Kind) (n x : ℕ) (r : Translated) where
   from-root z e = e ∙ rw (eq-eqb n 0 z)
 
   -- ---- one lookup
-  module _ (z : n ≡ 0 → ⊥) (ws : List ℕ) (read : LinesOf ws (mapIn kind (namespaceAt s n))) where
+  module _ (z : n ≡ 0 → ⊥) (ws : List ℕ) (read : LinesOf ws (mapIn kind (namespaceAt s n)) (startsAt s kind n)) where
     pub to-once : r ≡ out (kernelLinesIn ws) x → r ≡ toKernel s kind n x
     unfolding toKernel
     to-once e = e ∙ rw (ne-eqb n 0 z, read .kernel)

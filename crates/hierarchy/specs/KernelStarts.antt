@@ -12,13 +12,13 @@ use Rattle.idmap.specs.Good.{maxLines}
 use Rattle.idmap.specs.Lookup.{out, orNoId, back}
 use Rattle.idmap.specs.Ranges.{wholeByReach}
 use Rattle.records.specs.declared.Kind.{Kind}
-use Rattle.records.specs.Records.{mapIn, linesOf, kernelLinesOf}
-use Rattle.tables.specs.Tables.{State, namespaceAt}
+use Rattle.records.specs.Records.{mapIn, linesOf, onKernels}
+use Rattle.tables.specs.Tables.{State, namespaceAt, startsAt}
 use Rattle.hierarchy.specs.Walks.{Translation, itself}
 
 -- the lines of the map of namespace n, with kernel IDs (document 01: station-wide IDs) on the parent side
 abbrev pub kernelLinesAt : State → Kind → ℕ → List Line
-kernelLinesAt s kind n = kernelLinesOf (mapIn kind (namespaceAt s n))
+kernelLinesAt s kind n = onKernels (linesOf (mapIn kind (namespaceAt s n))) (startsAt s kind n)
 
 -- the kernel ID that an ID of namespace n stands for, and the ID of namespace n that stands for a kernel ID: one lookup
 -- each, at any level

@@ -16,7 +16,7 @@ use Rattle.prelude.proofs.Tests.{not-taken, not-left}
 use Rattle.capability.specs.Sets.{capSysAdmin}
 use Rattle.records.specs.declared.Process.{Process}
 use Rattle.records.specs.declared.Namespace.{Namespace}
-use Rattle.records.specs.Records.{isWritten}
+use Rattle.records.specs.Records.{isWritten, withDeny}
 use Rattle.tables.specs.declared.answer.Errno.the-variants.{EPERM, ESRCH, EINVAL}
 use Rattle.tables.specs.declared.answer.Answer.{Answer}
 use Rattle.tables.specs.declared.answer.Answer.the-variants.{Refused, Done}
@@ -29,7 +29,7 @@ use Rattle.tables.proofs.Promises.{refuses, answers}
 use Rattle.hierarchy.specs.Walks.{capableIn}
 use Rattle.mapping.specs.declared.setgroups.Setting.{Setting}
 use Rattle.mapping.specs.declared.setgroups.Setting.the-variants.{Deny, Allow, Neither}
-use Rattle.mapping.specs.Calls.{denyText, allowText, sameBytes, isWord, withDeny, settingIn, settingOf, writeSetgroupsTo, writeSetgroupsOf}
+use Rattle.mapping.specs.Calls.{denyText, allowText, sameBytes, isWord, settingIn, settingOf, writeSetgroupsTo, writeSetgroupsOf}
 
 -- ---- same_bytes
 and-false : (t : Bool) → (t && false) ≡ false
@@ -87,13 +87,6 @@ module _ (text : List ℕ) (d : Bool) (deny : d ≡ sameBytes text denyText) whe
         unfolding settingIn isWord
         asked-neither e = rw (← deny, no, ← deny-line, no₁, ← allow, no₂, ← allow-line, e)
 
--- ---- with_deny
-pub deny-stored : (n : Namespace) (d : Bool)
-    → _≡_ {A = Namespace}
-    (record { live = n .live; parent = n .parent; level = n .level; owner = n .owner; users = n .users; groups = n .groups; deny = d }) (withDeny n d)
-unfolding withDeny
-deny-stored n d = refl
-
 -- ---- write_to
 setting-deny : (s : Setting) (o : Option Bool) → s ≡ settingOf o → s ≡ Deny → o ≡ some true
 setting-deny s none e q = let z : Neither ≡ Deny = sym e ∙ q in cc
@@ -125,22 +118,22 @@ module _ (l : List ℕ) (w : Process) (n : ℕ) (text : List ℕ) (may : Bool) (
       unfolding writeSetgroupsTo
       deny-written e = refuses EPERM l _ (rw (← capable, able, setting-deny a (settingIn text) asked denies, ← target, ← state, e))
 
-      pub deny-done : (m : Namespace) (l′ : List ℕ) → written ≡ false → m ≡ withDeny t true → tablesOf l′ ≡ putNamespace (tablesOf l) n m
+      pub deny-done : (l′ : List ℕ) → written ≡ false → tablesOf l′ ≡ putNamespace (tablesOf l) n (withDeny (namespaceAt (tablesOf l) n) true)
           → Promise Done l l′ (writeSetgroupsTo (tablesOf l) w n text)
       unfolding writeSetgroupsTo
-      deny-done m l′ e made put =
-          answers Done l l′ _ refl (rw (put, ← capable, able, setting-deny a (settingIn text) asked denies, ← target, ← state, e, made))
+      deny-done l′ e put =
+          answers Done l l′ _ refl (rw (put, ← capable, able, setting-deny a (settingIn text) asked denies, ← target, ← state, e))
 
     module _ (allows : a ≡ Allow) where
       pub allow-denied : t .deny ≡ true → Promise (Refused EPERM) l l (writeSetgroupsTo (tablesOf l) w n text)
       unfolding writeSetgroupsTo
       allow-denied e = refuses EPERM l _ (rw (← capable, able, setting-allow a (settingIn text) asked allows, ← target, e))
 
-      pub allow-done : (m : Namespace) (l′ : List ℕ) → t .deny ≡ false → m ≡ withDeny t false → tablesOf l′ ≡ putNamespace (tablesOf l) n m
+      pub allow-done : (l′ : List ℕ) → t .deny ≡ false → tablesOf l′ ≡ putNamespace (tablesOf l) n (withDeny (namespaceAt (tablesOf l) n) false)
           → Promise Done l l′ (writeSetgroupsTo (tablesOf l) w n text)
-      unfolding writeSetgroupsTo withDeny
-      allow-done m l′ e made put =
-          answers Done l l′ _ refl (rw (put, ← capable, able, setting-allow a (settingIn text) asked allows, ← target, e, made))
+      unfolding writeSetgroupsTo
+      allow-done l′ e put =
+          answers Done l l′ _ refl (rw (put, ← capable, able, setting-allow a (settingIn text) asked allows, ← target, e))
 
 -- ---- write_setgroups
 module _ (l : List ℕ) (c name : ℕ) (text : List ℕ) (f : Found) (caller : f ≡ callerNamed (tablesOf l) c) where
@@ -170,7 +163,6 @@ pub ruleset settings = (
   asked-allow,
   asked-allow-line,
   asked-neither,
-  deny-stored,
   write-denied,
   write-neither,
   deny-written,

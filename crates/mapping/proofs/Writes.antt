@@ -24,7 +24,6 @@ use Rattle.idmap.specs.Lookup.{orNoId}
 use Rattle.idmap.specs.Ranges.{wholeByReach}
 use Rattle.idmap.specs.Text.{maxTextBytes, mapLines, mapText, padded}
 use Rattle.records.specs.declared.Kind.{Kind}
-use Rattle.records.specs.declared.Kind.the-variants.{User, Group}
 use Rattle.records.specs.declared.Ids.{Ids}
 use Rattle.records.specs.declared.MapState.the-variants.{Written}
 use Rattle.records.specs.declared.IdMap.{IdMap}
@@ -36,13 +35,13 @@ use Rattle.tables.specs.declared.answer.Answer.{Answer}
 use Rattle.tables.specs.declared.answer.Answer.the-variants.{Refused, Done}
 use Rattle.tables.specs.declared.find.Found.{Found}
 use Rattle.tables.specs.declared.find.Found.the-variants.{At, Nothing}
-use Rattle.tables.specs.Tables.{State, tablesOf, processAt, namespaceAt, putNamespace}
+use Rattle.tables.specs.Tables.{State, tablesOf, processAt, namespaceAt, startsAt, putMap}
 use Rattle.tables.specs.Find.{callerNamed, processNamed}
 use Rattle.tables.specs.Reply.{Outcome, Promise}
 use Rattle.tables.proofs.Promises.{refuses, answers}
 use Rattle.hierarchy.specs.Walks.{Translation, capableIn}
 use Rattle.hierarchy.specs.KernelStarts.{toKernel, wholeIn, byKernelStarts, kernelStarts}
-use Rattle.mapping.specs.Calls.{isNear, isId, mayByKind, singleLine, mayMap, allWhole, withMap, writtenMap, mappedTables, writeLinesTo, writeMapTo, writeMapOf}
+use Rattle.mapping.specs.Calls.{isNear, isId, mayByKind, singleLine, mayMap, allWhole, writtenMap, mappedTables, writeLinesTo, writeMapTo, writeMapOf}
 
 -- ---- near
 module _ (w : Process) (n : ℕ) (m : Namespace) where
@@ -168,16 +167,6 @@ module _ (out : ℕ → Translated) (ls : List Line) (n : ℕ) where
     pub starts-end : i ≤ n → i ≤ maxLines → maxLines ≤ i → r ≡ kernelStarts out (take n ls)
     starts-end h k p = starts-all (simp length-take (omega arith)) k
 
--- ---- with_map
-module _ (kind : Kind) (n : Namespace) (m : IdMap) where
-  pub with-users : kind ≡ User → _≡_ {A = Namespace} (record { live = n .live; parent = n .parent; level = n .level; owner = n .owner; users = m; groups = n .groups; deny = n .deny }) (withMap kind n m)
-  unfolding withMap
-  with-users e = rw e
-
-  pub with-groups : kind ≡ Group → _≡_ {A = Namespace} (record { live = n .live; parent = n .parent; level = n .level; owner = n .owner; users = n .users; groups = m; deny = n .deny }) (withMap kind n m)
-  unfolding withMap
-  with-groups e = rw e
-
 -- ---- what the reader of a map's text answers
 bad-none : (o : Option (List Line)) → mapText o .parsed ≡ Bad → o ≡ none
 unfolding mapText
@@ -215,18 +204,18 @@ module _ (l text : List ℕ) (kind : Kind) (w : Process) (n : ℕ) (m : Namespac
     read-lines : mapLines text ≡ some (take k (r .lines))
     read-lines = rw f (lines-some (mapLines text) k (rw f at v) .0)
 
-    read-map : (kernel : List ℕ) → _≡_ {A = IdMap} (record { state = Written k; lines = r .lines; kernel = kernel }) (writtenMap (take k (r .lines)) kernel)
-    read-map kernel =
+    read-map : _≡_ {A = IdMap} (record { state = Written k; lines = r .lines }) (writtenMap (take k (r .lines)))
+    read-map =
         rw f
         (let h = lines-some (mapLines text) k (rw f at v) in
-        λ i. record { state = Written (sym (h .1) i); lines = h .2 i; kernel = kernel })
+        λ i. record { state = Written (sym (h .1) i); lines = h .2 i })
 
     module _ (t : Bool) (q : t ≡ mayMap by (tablesOf l) kind w m (take k (r .lines))) where
       pub lines-denied : t ≡ false → Promise (Refused EPERM) l l (writeLinesTo by (tablesOf l) kind w n text)
       unfolding writeLinesTo
       lines-denied y = refuses EPERM l (writeLinesTo by (tablesOf l) kind w n text) (sym (rw (read-lines, ← tgt, ← q, y)))
 
-      module _ (y : t ≡ true) (ws : List ℕ) (above : LinesOf ws (mapIn kind (namespaceAt (tablesOf l) (m .parent)))) (u : Bool) (g : u ≡ allWhole (wholeByReach (linesIn ws)) (take k (r .lines))) where
+      module _ (y : t ≡ true) (ws : List ℕ) (above : LinesOf ws (mapIn kind (namespaceAt (tablesOf l) (m .parent))) (startsAt (tablesOf l) kind (m .parent))) (u : Bool) (g : u ≡ allWhole (wholeByReach (linesIn ws)) (take k (r .lines))) where
         whole-above : u ≡ allWhole (by .whole kind (m .parent)) (take k (r .lines))
         unfolding byKernelStarts wholeIn
         whole-above = rw (above .written) at g
@@ -235,13 +224,12 @@ module _ (l text : List ℕ) (kind : Kind) (w : Process) (n : ℕ) (m : Namespac
         unfolding writeLinesTo
         lines-not-whole z = refuses EPERM l (writeLinesTo by (tablesOf l) kind w n text) (sym (rw (read-lines, ← tgt, ← q, y, ← whole-above, z)))
 
-        pub lines-done : (kernel : List ℕ) (new : Namespace) (l′ : List ℕ) → u ≡ true → kernel ≡ kernelStarts (toKernel (tablesOf l) kind (m .parent)) (take k (r .lines))
-            → new ≡ withMap kind m (record { state = Written k; lines = r .lines; kernel = kernel }) → tablesOf l′ ≡ putNamespace (tablesOf l) n new
-            → Promise Done l l′ (writeLinesTo by (tablesOf l) kind w n text)
+        pub lines-done : (kernel l′ : List ℕ) → u ≡ true → kernel ≡ kernelStarts (toKernel (tablesOf l) kind (m .parent)) (take k (r .lines))
+            → tablesOf l′ ≡ putMap (tablesOf l) kind n (record { state = Written k; lines = r .lines }) kernel → Promise Done l l′ (writeLinesTo by (tablesOf l) kind w n text)
         unfolding writeLinesTo mappedTables
-        lines-done kernel new l′ z c e p =
+        lines-done kernel l′ z c p =
             answers Done l l′ (writeLinesTo by (tablesOf l) kind w n text) refl
-            (rw (read-lines, ← tgt, ← q, y, ← whole-above, z, p, e, read-map kernel, c, by-starts))
+            (rw (read-lines, ← tgt, ← q, y, ← whole-above, z, p, read-map, c, by-starts))
 
 -- ---- write_to
 -- a promise of one outcome is one of an equal outcome
@@ -309,8 +297,6 @@ pub ruleset tests = (
   single-owned,
   may-capable,
   may-single,
-  with-users,
-  with-groups,
   not-taken,
   not-left,
   needs,

@@ -22,8 +22,8 @@ use Rattle.records.specs.declared.MapState.the-variants.{Unwritten, Written}
 use Rattle.records.specs.declared.IdMap.{IdMap}
 use Rattle.records.specs.declared.Process.{Process}
 use Rattle.records.specs.declared.Namespace.{Namespace}
-use Rattle.records.specs.Records.{idsIn, mapIn, setIdOf, isWritten, linesOf}
-use Rattle.tables.specs.Tables.{State, processAt, namespaceAt, putNamespace}
+use Rattle.records.specs.Records.{idsIn, mapIn, setIdOf, isWritten, linesOf, withDeny}
+use Rattle.tables.specs.Tables.{State, processAt, namespaceAt, putNamespace, putMap}
 use Rattle.tables.specs.Find.{callerNamed, processNamed}
 use Rattle.tables.specs.Reply.{Reply, refused, done, bytes, Outcome, refuse, onFound, when, unless}
 use Rattle.mapping.specs.declared.setgroups.Setting.{Setting}
@@ -64,12 +64,8 @@ unfoldable pub allWhole : (ℕ → ℕ → Bool) → List Line → Bool
 allWhole whole [] = true
 allWhole whole (l ∷ ls) = whole (l .parent) (l .count) && allWhole whole ls
 
-abbrev pub writtenMap : List Line → List ℕ → IdMap
-writtenMap ls kernel = record { state = Written (length ls); lines = padded ls; kernel = kernel }
-
-unfoldable pub withMap : Kind → Namespace → IdMap → Namespace
-withMap User n m = record { live = n .live; parent = n .parent; level = n .level; owner = n .owner; users = m; groups = n .groups; deny = n .deny }
-withMap Group n m = record { live = n .live; parent = n .parent; level = n .level; owner = n .owner; users = n .users; groups = m; deny = n .deny }
+abbrev pub writtenMap : List Line → IdMap
+writtenMap ls = record { state = Written (length ls); lines = padded ls }
 
 abbrev pub thenLines : {A : Type 0} → Option (List Line) → A → (List Line → A) → A
 thenLines none other next = other
@@ -77,8 +73,7 @@ thenLines (some ls) other next = next ls
 
 -- what a write stores: the map, and what the code keeps beside it
 unfoldable pub mappedTables : Translation → State → Kind → ℕ → List Line → State
-mappedTables by s kind n ls =
-    putNamespace s n (withMap kind (namespaceAt s n) (writtenMap ls (kernelStarts (by .out kind (namespaceAt s n .parent)) ls)))
+mappedTables by s kind n ls = putMap s kind n (writtenMap ls) (kernelStarts (by .out kind (namespaceAt s n .parent)) ls)
 
 -- the lines of the text, the writer's right to them, and that each lies in a line above; then the map is stored
 unfoldable pub writeLinesTo : Translation → State → Kind → Process → ℕ → List ℕ → Outcome
@@ -120,9 +115,6 @@ sameBytes (a ∷ x) (b ∷ y) = eqb a b && sameBytes x y
 -- a word, with or without one newline after
 unfoldable pub isWord : List ℕ → List ℕ → Bool
 isWord text word = sameBytes text word || sameBytes text (word ++ (10 ∷ []))
-
-unfoldable pub withDeny : Namespace → Bool → Namespace
-withDeny n d = record { live = n .live; parent = n .parent; level = n .level; owner = n .owner; users = n .users; groups = n .groups; deny = d }
 
 -- what a text sets: deny, allow, or nothing where it is neither
 unfoldable pub settingIn : List ℕ → Option Bool

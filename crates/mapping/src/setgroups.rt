@@ -3,10 +3,9 @@ ghost use mathlib.Core.Path.{_≡_};
 ghost use mathlib.Core.Bool.{true, false};
 ghost use Rattle.tables.specs.Tables.{tablesOf};
 ghost use Rattle.tables.specs.Reply.{Promise};
-ghost use Rattle.mapping.specs.Calls.{sameBytes, settingOf, settingIn, withDeny, writeSetgroupsTo, writeSetgroupsOf};
+ghost use Rattle.mapping.specs.Calls.{sameBytes, settingOf, settingIn, writeSetgroupsTo, writeSetgroupsOf};
 use capability::CAP_SYS_ADMIN;
 use hierarchy::capable::capable;
-use records::Namespace;
 use records::Process;
 use records::kinds::is_written;
 use tables::Tables;
@@ -15,8 +14,8 @@ use tables::answer::Errno;
 use tables::find::Found;
 use tables::find::find_caller;
 use tables::find::named_process;
+use tables::namespaces::deny_put;
 use tables::namespaces::namespace_at;
-use tables::namespaces::namespace_put;
 use tables::processes::process_at;
 
 // What a text sets.
@@ -62,22 +61,6 @@ fn asked_setting(text: &[u8]) -> Setting
     Setting::Neither
 }
 
-fn with_deny(n: Namespace, deny: bool) -> Namespace
-    ensures { λ r. ⌜ r ≡ withDeny n deny ⌝ }
-{
-    let users = n.users;
-    let groups = n.groups;
-    Namespace {
-        live: n.live,
-        parent: n.parent,
-        level: n.level,
-        owner: n.owner,
-        users: users,
-        groups: groups,
-        deny: deny,
-    }
-}
-
 // The write to namespace `n` by process `w`.
 fn write_to(t: &mut Tables, w: Process, n: u64, text: &[u8]) -> Answer
     ensures { λ r. ⌜ Promise r (now (t .entry)) (now (t .exit)) (writeSetgroupsTo (tablesOf (now (t .entry))) w n (now (text .entry))) ⌝ }
@@ -98,7 +81,7 @@ fn write_to(t: &mut Tables, w: Process, n: u64, text: &[u8]) -> Answer
             if is_written(state) {
                 return Answer::Refused(Errno::EPERM);
             }
-            namespace_put(t, n as usize, with_deny(target, true));
+            deny_put(t, n as usize, true);
             Answer::Done
         }
         Setting::Allow => {
@@ -106,7 +89,7 @@ fn write_to(t: &mut Tables, w: Process, n: u64, text: &[u8]) -> Answer
             if target.deny {
                 return Answer::Refused(Errno::EPERM);
             }
-            namespace_put(t, n as usize, with_deny(target, false));
+            deny_put(t, n as usize, false);
             Answer::Done
         }
     }

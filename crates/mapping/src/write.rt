@@ -6,7 +6,7 @@ ghost use Rattle.idmap.specs.Ranges.{wholeByReach};
 ghost use Rattle.tables.specs.Tables.{tablesOf, namespaceAt};
 ghost use Rattle.tables.specs.Reply.{Promise};
 ghost use Rattle.hierarchy.specs.KernelStarts.{toKernel, byKernelStarts, quick, kernelStarts};
-ghost use Rattle.mapping.specs.Calls.{isNear, isId, mayByKind, singleLine, mayMap, allWhole, withMap, writeLinesTo, writeMapTo, writeMapOf};
+ghost use Rattle.mapping.specs.Calls.{isNear, isId, mayByKind, singleLine, mayMap, allWhole, writeLinesTo, writeMapTo, writeMapOf};
 use hierarchy::capable::capable;
 use hierarchy::translate::to_kernel;
 use idmap::Line;
@@ -34,8 +34,8 @@ use tables::find::Found;
 use tables::find::find_caller;
 use tables::find::named_process;
 use tables::namespaces::map_lines;
+use tables::namespaces::map_put;
 use tables::namespaces::namespace_at;
-use tables::namespaces::namespace_put;
 use tables::processes::process_at;
 
 // Whether the writer is in namespace `n` or in its parent.
@@ -158,33 +158,6 @@ fn kernel_starts(
     kernel
 }
 
-fn with_map(kind: Kind, n: Namespace, map: IdMap) -> Namespace
-    ensures { λ r. ⌜ r ≡ withMap kind n map ⌝ }
-{
-    let users = n.users;
-    let groups = n.groups;
-    match kind {
-        Kind::User => Namespace {
-            live: n.live,
-            parent: n.parent,
-            level: n.level,
-            owner: n.owner,
-            users: map,
-            groups: groups,
-            deny: n.deny,
-        },
-        Kind::Group => Namespace {
-            live: n.live,
-            parent: n.parent,
-            level: n.level,
-            owner: n.owner,
-            users: users,
-            groups: map,
-            deny: n.deny,
-        },
-    }
-}
-
 // The write to namespace `n`, whose record is `target`, where the text is to be read: its lines, the writer's right to
 // them and the lines above them tested, and the map stored.
 fn write_lines(
@@ -217,9 +190,8 @@ fn write_lines(
     let map = IdMap {
         state: MapState::Written(count),
         lines: lines,
-        kernel: kernel,
     };
-    namespace_put(t, n as usize, with_map(kind, target, map));
+    map_put(t, n as usize, kind, map, kernel);
     Answer::Done
 }
 

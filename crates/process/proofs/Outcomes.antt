@@ -12,9 +12,8 @@ use Rattle.capability.specs.Sets.{capSysAdmin, fullSet}
 use Rattle.idmap.specs.declared.Translated.{Translated}
 use Rattle.records.specs.declared.Kind.the-variants.{User, Group}
 use Rattle.records.specs.declared.Process.{Process}
-use Rattle.records.specs.declared.IdMap.{IdMap}
 use Rattle.records.specs.declared.Namespace.{Namespace}
-use Rattle.records.specs.Records.{freeMap}
+use Rattle.records.specs.Records.{unmapped}
 use Rattle.tables.specs.declared.answer.Errno.{Errno}
 use Rattle.tables.specs.declared.answer.Errno.the-variants.{EPERM, ESRCH, EAGAIN, EINVAL, ENOSPC, EUSERS}
 use Rattle.tables.specs.declared.answer.Answer.the-variants.{Refused, Done, Child, ChildIn, NewNamespace}
@@ -22,7 +21,7 @@ use Rattle.tables.specs.declared.find.Found.{Found}
 use Rattle.tables.specs.declared.find.Found.the-variants.{At, Nothing}
 use Rattle.tables.specs.declared.find.Free.{Free}
 use Rattle.tables.specs.declared.find.Free.the-variants.{Place, Full}
-use Rattle.tables.specs.Tables.{State, maxLevel, tablesOf, processAt, namespaceAt, putProcess, putNamespace}
+use Rattle.tables.specs.Tables.{State, maxLevel, tablesOf, processAt, namespaceAt, putProcess, putNamespace, clearStarts}
 use Rattle.tables.specs.Find.{processNumber, namespaceNumber, callerNamed, namespaceNamed, freeProcessPlace, freeNamespacePlace, freeAs}
 use Rattle.tables.specs.Reply.{Promise}
 use Rattle.tables.proofs.Promises.{refuses, answers, none-free, free-at}
@@ -43,17 +42,16 @@ module _ (s : State) (p : Process) (u : Translated) (m : Bool) (f : u ≡ fromKe
   unfolding knowsItself byKernelStarts
   knows-no-user t = rw (← f, ← e, t)
 
--- ---- member, child_namespace
+-- ---- member
 pub member-is : (p : Process) (n : ℕ) → _≡_ {A = Process} (record { live = p .live; namespace = n; users = p .users; groups = p .groups; supplementary = p .supplementary; permitted = record { bits = fullSet }; effective = record { bits = fullSet } }) (entered p n)
 unfolding entered
 member-is p n = refl
 
-pub child-is : (p : Process) (own : Namespace) (m : IdMap) → m ≡ freeMap → _≡_ {A = Namespace} (record { live = true; parent = p .namespace; level = own .level + 1; owner = p .users .effective; users = m; groups = m; deny = own .deny }) (below p own)
+-- ---- make_namespace
+pub made-is : (s₀ s₁ : State) (n : ℕ) (p : Process) (own : Namespace) → s₁ ≡ clearStarts (putNamespace s₀ n (unmapped (p .namespace) (own .level + 1) (p .users .effective) (own .deny))) n
+    → s₁ ≡ withNamespace s₀ n p own
 unfolding below
-child-is p own m e = λ i. record { live = true; parent = p .namespace; level = own .level + 1; owner = p .users .effective; users = e i; groups = e i; deny = own .deny }
-
-pub made-is : (s₀ s₁ : State) (n : ℕ) (p : Process) (own new : Namespace) → new ≡ below p own → s₁ ≡ putNamespace s₀ n new → s₁ ≡ withNamespace s₀ n p own
-made-is s₀ s₁ n p own new e q = q ∙ rw e
+made-is s₀ s₁ n p own e = e
 
 -- ---- fork
 module _ (l : List ℕ) (c : ℕ) (r : Found) (f : r ≡ callerNamed (tablesOf l) c) where
@@ -152,7 +150,7 @@ module _ (l : List ℕ) (c name : ℕ) (r : Found) (f : r ≡ callerNamed (table
         unfolding setnsOf
         setns-done in′ l′ t z y = answers Done l l′ (setnsOf (tablesOf l) c name) refl (rw (sym f ∙ v, sym g ∙ w, ← e, ne-eqb (p .namespace) n h, ← m, t, y, z))
 
-pub ruleset helpers = (knows-user, knows-no-user, member-is, child-is, made-is, needs)
+pub ruleset helpers = (knows-user, knows-no-user, member-is, made-is, needs)
 
 pub ruleset forks = (fork-no-caller, fork-full, fork-done, needs)
 

@@ -9,7 +9,7 @@ use Rattle.records.specs.declared.Kind.the-variants.{User, Group}
 use Rattle.records.specs.declared.Process.{Process}
 use Rattle.records.specs.declared.Namespace.{Namespace}
 use Rattle.records.specs.Records.{freeMap}
-use Rattle.tables.specs.Tables.{State, maxLevel, processAt, namespaceAt, putProcess, putNamespace}
+use Rattle.tables.specs.Tables.{State, maxLevel, processAt, namespaceAt, putProcess, putNamespace, clearStarts}
 use Rattle.tables.specs.Find.{processNumber, namespaceNumber, callerNamed, namespaceNamed, freeProcessPlace, freeNamespacePlace}
 use Rattle.tables.specs.Reply.{done, child, childIn, newNamespace, Outcome, refuse, onFound, when, unless}
 use Rattle.hierarchy.specs.Walks.{Translation, capableIn}
@@ -44,9 +44,9 @@ below p own = record {
   deny = own .deny;
 }
 
--- the tables with that namespace in place n
+-- the tables with that namespace in place n. Nothing that the code kept beside maps there is left
 abbrev pub withNamespace : State → ℕ → Process → Namespace → State
-withNamespace s n p own = putNamespace s n (below p own)
+withNamespace s n p own = clearStarts (putNamespace s n (below p own)) n
 
 -- process p as a member of namespace n: both sets full, its IDs unchanged
 unfoldable pub entered : Process → ℕ → Process

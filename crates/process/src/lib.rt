@@ -4,7 +4,7 @@ ghost use Prim.Native.Nat.{_<_};
 ghost use Rattle.tables.specs.Tables.{maxLevel, tablesOf};
 ghost use Rattle.tables.specs.Reply.{Promise};
 ghost use Rattle.hierarchy.specs.KernelStarts.{byKernelStarts, quick};
-ghost use Rattle.process.specs.Calls.{forkOf, isMapped, knowsItself, below, withNamespace, entered, cloneOf, unshareOf, setnsOf};
+ghost use Rattle.process.specs.Calls.{forkOf, isMapped, knowsItself, withNamespace, entered, cloneOf, unshareOf, setnsOf};
 ghost use Rattle.process.specs.Making.{Makes, HasRoom};
 use capability::CAP_SYS_ADMIN;
 use capability::CapabilitySet;
@@ -14,7 +14,6 @@ use idmap::Translated;
 use records::Kind;
 use records::Namespace;
 use records::Process;
-use records::namespaces::free_map;
 use tables::MAX_LEVEL;
 use tables::Tables;
 use tables::answer::Answer;
@@ -71,30 +70,13 @@ fn knows_itself(t: &Tables, p: Process) -> bool
     }
 }
 
-// The namespace that a process makes below its own.
-fn child_namespace(p: Process, own: Namespace) -> Namespace
-    requires { ⌜ own .level < maxLevel ⌝ }
-    ensures { λ r. ⌜ r ≡ below p own ⌝ }
-{
-    let ids = p.users;
-    let none = free_map();
-    Namespace {
-        live: true,
-        parent: p.namespace,
-        level: own.level + 1,
-        owner: ids.effective,
-        users: none,
-        groups: none,
-        deny: own.deny,
-    }
-}
-
-// Puts that namespace into place `n`.
+// Puts the namespace that a process makes below its own into place `n`.
 fn make_namespace(t: &mut Tables, n: usize, p: Process, own: Namespace)
     requires { ⌜ own .level < maxLevel ⌝ }
     ensures { λ r. ⌜ tablesOf (now (t .exit)) ≡ withNamespace (tablesOf (now (t .entry))) n p own ⌝ }
 {
-    namespace_put(t, n, child_namespace(p, own));
+    let ids = p.users;
+    namespace_put(t, n, p.namespace, own.level + 1, ids.effective, own.deny);
 }
 
 // A process as a member of a namespace, with both sets full.

@@ -15,8 +15,8 @@ use Rattle.prelude.proofs.Made.{tab-same, tab-next, tab-front, tab-whole}
 use Rattle.idmap.specs.declared.Line.{Line}
 use Rattle.idmap.specs.Line.{lineWords, insideColumn, parentColumn, countColumn, kernelColumn, lineAt, linesBy, linesIn, kernelLinesIn}
 use Rattle.idmap.specs.Good.{maxLines}
-use Rattle.records.specs.Records.{firstLineAt, mapWidth, mapOf, mapFrom, onKernel, LinesOf}
-use Rattle.records.proofs.Records.{map-whole, map-other}
+use Rattle.records.specs.Records.{firstLineAt, mapWidth, mapOf, mapFrom, linesOf, startsIn, startsFrom, onKernel, onKernels, LinesOf}
+use Rattle.records.proofs.Records.{map-whole, map-other, starts-whole}
 
 -- ---- the lines that words hold, one by one
 module _ (from to : ℕ) (f : from < lineWords) (t : to < lineWords) (ws : List ℕ) where
@@ -55,7 +55,7 @@ module _ (from to : ℕ) (f : from < lineWords) (t : to < lineWords) (ws : List 
 abbrev places : ℕ → List ℕ → List Line
 places to ws = tab (λ (j : ℕ). lineAt insideColumn to ws (firstLineAt + lineWords * j)) maxLines 0
 
-kernel-places : (ws : List ℕ) → places kernelColumn ws ≡ zipWith onKernel (mapOf ws .lines) (mapOf ws .kernel)
+kernel-places : (ws : List ℕ) → places kernelColumn ws ≡ onKernels (mapOf ws .lines) (startsIn ws)
 unfolding zipWith
 kernel-places ws = refl
 
@@ -74,19 +74,19 @@ module _ (ws r : List ℕ) (long : length ws ≡ mapWidth) where
       ∙ sym (tab-whole (λ (j : ℕ). lineAt insideColumn to ws (firstLineAt + lineWords * j)) n maxLines 0 h)
 
   module _ (n : ℕ) (e : n ≡ getD ws 1 0) (t : getD ws 0 0 ≡ 1) where
-    pub written-some : n < maxLines → r ≡ part (n * lineWords) firstLineAt ws → LinesOf r (mapOf ws)
+    pub written-some : n < maxLines → r ≡ part (n * lineWords) firstLineAt ws → LinesOf r (mapOf ws) (startsIn ws)
     written-some h q = record {
       written = some-lines n parentColumn (omega arith) h q ∙ rw (eq-eqb (getD ws 0 0) 1 t, ← e);
-      kernel = some-lines n kernelColumn (omega arith) h q ∙ rw (eq-eqb (getD ws 0 0) 1 t, ← e) (ap (take n) (kernel-places ws) ∙ zip-take onKernel n (mapOf ws .lines) (mapOf ws .kernel));
+      kernel = some-lines n kernelColumn (omega arith) h q ∙ rw (eq-eqb (getD ws 0 0) 1 t, ← e) (ap (take n) (kernel-places ws) ∙ zip-take onKernel n (mapOf ws .lines) (startsIn ws));
     }
 
-    pub written-all : maxLines ≤ n → r ≡ part (lineWords * maxLines) firstLineAt ws → LinesOf r (mapOf ws)
+    pub written-all : maxLines ≤ n → r ≡ part (lineWords * maxLines) firstLineAt ws → LinesOf r (mapOf ws) (startsIn ws)
     written-all h q = record {
       written = all-lines n parentColumn (omega arith) h q ∙ rw (eq-eqb (getD ws 0 0) 1 t, ← e);
-      kernel = all-lines n kernelColumn (omega arith) h q ∙ rw (eq-eqb (getD ws 0 0) 1 t, ← e) (ap (take n) (kernel-places ws) ∙ zip-take onKernel n (mapOf ws .lines) (mapOf ws .kernel));
+      kernel = all-lines n kernelColumn (omega arith) h q ∙ rw (eq-eqb (getD ws 0 0) 1 t, ← e) (ap (take n) (kernel-places ws) ∙ zip-take onKernel n (mapOf ws .lines) (startsIn ws));
     }
 
-  pub written-none : (getD ws 0 0 ≡ 1 → ⊥) → r ≡ part 0 firstLineAt ws → LinesOf r (mapOf ws)
+  pub written-none : (getD ws 0 0 ≡ 1 → ⊥) → r ≡ part 0 firstLineAt ws → LinesOf r (mapOf ws) (startsIn ws)
   unfolding part linesBy zipWith
   written-none t q = record {
     written = ap linesIn q ∙ rw (ne-eqb (getD ws 0 0) 1 t);
@@ -94,11 +94,11 @@ module _ (ws r : List ℕ) (long : length ws ≡ mapWidth) where
   }
 
 -- ---- lines_of
-pub lines-whole : (ws r : List ℕ) → length ws ≡ mapWidth → LinesOf r (mapOf ws) → LinesOf r (mapFrom ws)
-lines-whole ws r h e = subst (LinesOf r) (sym (map-whole ws h)) e
+pub lines-whole : (ws r : List ℕ) → length ws ≡ mapWidth → LinesOf r (mapOf ws) (startsIn ws) → LinesOf r (mapFrom ws) (startsFrom ws)
+lines-whole ws r h e = record { written = e .written ∙ ap linesOf (sym (map-whole ws h)); kernel = e .kernel ∙ sym (λ i. onKernels (linesOf (map-whole ws h i)) (starts-whole ws h i)) }
 
-pub lines-other : (ws r : List ℕ) → (length ws ≡ mapWidth → ⊥) → r ≡ part 0 0 ws → LinesOf r (mapFrom ws)
+pub lines-other : (ws r : List ℕ) → (length ws ≡ mapWidth → ⊥) → r ≡ part 0 0 ws → LinesOf r (mapFrom ws) (startsFrom ws)
 unfolding part linesBy zipWith
-lines-other ws r h e = subst (LinesOf r) (sym (map-other ws h)) (record { written = ap linesIn e; kernel = ap kernelLinesIn e })
+lines-other ws r h e = record { written = ap linesIn e ∙ ap linesOf (sym (map-other ws h)); kernel = ap kernelLinesIn e ∙ sym (λ i. onKernels (linesOf (map-other ws h i)) (startsFrom ws)) }
 
 pub ruleset lines = (written-some, written-all, written-none, lines-whole, lines-other, needs)

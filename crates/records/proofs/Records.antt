@@ -5,7 +5,7 @@ use mathlib.Core.Bool.{Bool, true, false}
 use mathlib.Core.List.{List, [], _∷_, _++_}
 use native.Mathlib.Nat.{mod-eq-of-lt}
 use lib.Dec.{eqb}
-use lib.ListN.{length, getD, take, drop}
+use lib.ListN.{length, getD, take, drop, set, replicate}
 use mir.Val.{Fits}
 use mir.Syntax.{w32}
 use borrow.Author.Needs.{needs}
@@ -16,6 +16,7 @@ use Rattle.prelude.proofs.Made.{tab-all}
 use Rattle.idmap.specs.declared.Line.{Line}
 use Rattle.idmap.specs.Line.{noLine, lineWords, insideColumn, parentColumn, kernelColumn, lineOf, lineAt}
 use Rattle.idmap.specs.Good.{maxLines}
+use Rattle.records.specs.declared.Kind.{Kind}
 use Rattle.records.specs.declared.Kind.the-variants.{User, Group}
 use Rattle.records.specs.declared.MapState.{MapState}
 use Rattle.records.specs.declared.MapState.the-variants.{Unwritten, Written}
@@ -23,7 +24,7 @@ use Rattle.records.specs.declared.IdMap.{IdMap}
 use Rattle.records.specs.declared.Namespace.{Namespace}
 use Rattle.records.specs.declared.Ids.{Ids}
 use Rattle.records.specs.declared.Process.{Process}
-use Rattle.records.specs.Records.{flagWord, lowAt, idsAt, maxGroups, processWidth, freeProcess, processOf, processFrom, stateOf, stateTag, stateCount, firstLineAt, mapWidth, mapAt, mapOf, mapFrom, freeMap, denyAt, namespaceWidth, namespaceOf, namespaceFrom, freeNamespace}
+use Rattle.records.specs.Records.{flagWord, lowAt, startsIn, startsOf, startsFrom, noStarts, unmapped, idsAt, maxGroups, processWidth, freeProcess, processOf, processFrom, stateOf, stateTag, stateCount, firstLineAt, mapWidth, mapAt, mapOf, mapFrom, freeMap, denyAt, namespaceWidth, namespaceOf, namespaceFrom, freeNamespace}
 
 pub flag-round : (b : Bool) → eqb (flagWord b) 1 ≡ b
 flag-round true = refl
@@ -80,18 +81,11 @@ state-round Unwritten = refl
 state-round (Written n) = refl
 
 -- a map from its words, line by line
-module _ (ws : List ℕ) where
-  abbrev lineIs : ℕ → Line → Type 0
-  lineIs j l = l ≡ lineAt insideColumn parentColumn ws (firstLineAt + lineWords * j)
-
-  abbrev kernelIs : ℕ → ℕ → Type 0
-  kernelIs j y = y ≡ lowAt ws (firstLineAt + lineWords * j + kernelColumn)
-
-  pub map-read : (a b c d e : Line) (v w x y z : ℕ) (s : MapState) → lineIs 0 a → lineIs 1 b → lineIs 2 c → lineIs 3 d → lineIs 4 e
-      → kernelIs 0 v → kernelIs 1 w → kernelIs 2 x → kernelIs 3 y → kernelIs 4 z → s ≡ stateOf (getD ws 0 0) (getD ws 1 0)
-      → _≡_ {A = IdMap} (record { state = s; lines = a ∷ b ∷ c ∷ d ∷ e ∷ []; kernel = v ∷ w ∷ x ∷ y ∷ z ∷ [] }) (mapOf ws)
-  map-read a b c d e v w x y z s pa pb pc pd pe pv pw px py pz q =
-      λ i. record { state = q i; lines = pa i ∷ pb i ∷ pc i ∷ pd i ∷ pe i ∷ []; kernel = pv i ∷ pw i ∷ px i ∷ py i ∷ pz i ∷ [] }
+pub map-read : (ws : List ℕ) (a b c d e : Line) (s : MapState) → a ≡ lineAt insideColumn parentColumn ws (firstLineAt + lineWords * 0) → b ≡ lineAt insideColumn parentColumn ws (firstLineAt + lineWords * 1)
+    → c ≡ lineAt insideColumn parentColumn ws (firstLineAt + lineWords * 2) → d ≡ lineAt insideColumn parentColumn ws (firstLineAt + lineWords * 3)
+    → e ≡ lineAt insideColumn parentColumn ws (firstLineAt + lineWords * 4)
+    → s ≡ stateOf (getD ws 0 0) (getD ws 1 0) → _≡_ {A = IdMap} (record { state = s; lines = a ∷ b ∷ c ∷ d ∷ e ∷ [] }) (mapOf ws)
+map-read ws a b c d e s p q r t u v = λ i. record { state = v i; lines = p i ∷ q i ∷ r i ∷ t i ∷ u i ∷ [] }
 
 -- a line and its kernel start from their words, of 32 bits each
 module _ (l : Line) (y : ℕ) where
@@ -105,40 +99,44 @@ module _ (l : Line) (y : ℕ) where
 abbrev four : List ℕ → List ℕ → List ℕ
 four l rest = getD l 0 0 ∷ getD l 1 0 ∷ getD l 2 0 ∷ getD l 3 0 ∷ rest
 
-module _ (m : IdMap) where
-  -- words hold line j, and its kernel start
-  abbrev holdsLine : ℕ → List ℕ → Type 0
-  holdsLine j ws = lineOf insideColumn parentColumn ws ≡ getD (m .lines) j noLine
+-- words hold line j of a map, and its kernel start
+abbrev holdsLine : IdMap → ℕ → List ℕ → Type 0
+holdsLine m j ws = lineOf insideColumn parentColumn ws ≡ getD (m .lines) j noLine
 
-  abbrev holdsKernel : ℕ → List ℕ → Type 0
-  holdsKernel j ws = lowAt ws kernelColumn ≡ getD (m .kernel) j 0
+abbrev holdsKernel : List ℕ → ℕ → List ℕ → Type 0
+holdsKernel ys j ws = lowAt ws kernelColumn ≡ getD ys j 0
 
-  pub map-round : (t n : ℕ) (a b c d e : List ℕ) → t ≡ stateTag (m .state) → n ≡ stateCount (m .state) → length (m .lines) ≡ maxLines → length (m .kernel) ≡ maxLines
-      → holdsLine 0 a → holdsKernel 0 a → holdsLine 1 b → holdsKernel 1 b → holdsLine 2 c → holdsKernel 2 c → holdsLine 3 d → holdsKernel 3 d → holdsLine 4 e → holdsKernel 4 e
-      → mapOf (t ∷ n ∷ four a (four b (four c (four d (four e []))))) ≡ m
-  map-round t n a b c d e p q h k la ka lb kb lc kc ld kd le ke = λ i. record {
+module _ (t n : ℕ) (a b c d e : List ℕ) where
+  pub map-round : (m : IdMap) → t ≡ stateTag (m .state) → n ≡ stateCount (m .state) → length (m .lines) ≡ maxLines
+      → holdsLine m 0 a → holdsLine m 1 b → holdsLine m 2 c → holdsLine m 3 d → holdsLine m 4 e → mapOf (t ∷ n ∷ four a (four b (four c (four d (four e []))))) ≡ m
+  map-round m p q h la lb lc ld le = λ i. record {
     state = (ap₂ stateOf p q ∙ state-round (m .state)) i;
     lines = ((λ j. la j ∷ lb j ∷ lc j ∷ ld j ∷ le j ∷ []) ∙ tab-all (m .lines) noLine maxLines h) i;
-    kernel = ((λ j. ka j ∷ kb j ∷ kc j ∷ kd j ∷ ke j ∷ []) ∙ tab-all (m .kernel) 0 maxLines k) i;
   }
 
--- ---- a namespace
-abbrev namespaceRow : ℕ → List ℕ → List ℕ → ℕ → Namespace → List ℕ
-namespaceRow w u g v n = w ∷ n .parent ∷ n .level ∷ n .owner ∷ (tab (λ (j : ℕ). getD u j 0) mapWidth 0 ++ (tab (λ (j : ℕ). getD g j 0) mapWidth 0 ++ (v ∷ [])))
+  pub starts-round : (ys : List ℕ) → length ys ≡ maxLines → holdsKernel ys 0 a → holdsKernel ys 1 b → holdsKernel ys 2 c → holdsKernel ys 3 d → holdsKernel ys 4 e
+      → startsIn (t ∷ n ∷ four a (four b (four c (four d (four e []))))) ≡ ys
+  starts-round ys h ka kb kc kd ke = (λ j. ka j ∷ kb j ∷ kc j ∷ kd j ∷ ke j ∷ []) ∙ tab-all ys 0 maxLines h
 
-pub namespace-round : (n : Namespace) (w v : ℕ) (u g : List ℕ) → w ≡ flagWord (n .live) → v ≡ flagWord (n .deny) → length u ≡ mapWidth → length g ≡ mapWidth → mapOf u ≡ n .users → mapOf g ≡ n .groups → Fits w32 (n .owner) → namespaceOf (namespaceRow w u g v n) ≡ n
-namespace-round n w v u g e q hu hg mu mg f =
-    let us : mapOf (tab (λ (j : ℕ). getD u j 0) mapWidth 0) ≡ n .users = ap mapOf (tab-all u 0 mapWidth hu) ∙ mu in
-    let gs : mapOf (tab (λ (j : ℕ). getD g j 0) mapWidth 0) ≡ n .groups = ap mapOf (tab-all g 0 mapWidth hg) ∙ mg in
-    λ i. record {
-      live = (ap (λ (x : ℕ). eqb x 1) e ∙ flag-round (n .live)) i;
-      parent = n .parent;
-      level = n .level;
-      owner = narrow f i;
-      users = us i;
-      groups = gs i;
-      deny = (ap (λ (x : ℕ). eqb x 1) q ∙ flag-round (n .deny)) i;
-    }
+-- ---- a namespace
+-- the words of one with both maps unwritten
+abbrev unmappedRow : ℕ → ℕ → ℕ → ℕ → List ℕ
+unmappedRow parent level owner v = set (set (set (set (set (replicate namespaceWidth 0) 0 1) 1 parent) 2 level) 3 owner) denyAt v
+
+pub unmapped-round : (parent level owner v : ℕ) (deny : Bool) → v ≡ flagWord deny → Fits w32 owner → namespaceOf (unmappedRow parent level owner v) ≡ unmapped parent level owner deny
+unmapped-round parent level owner v deny e f = λ i. record {
+  live = true;
+  parent = parent;
+  level = level;
+  owner = narrow f i;
+  users = freeMap;
+  groups = freeMap;
+  deny = (ap (λ (x : ℕ). eqb x 1) e ∙ flag-round deny) i;
+}
+
+pub unmapped-starts : (parent level owner v : ℕ) (k : Kind) → startsOf k (unmappedRow parent level owner v) ≡ noStarts
+unmapped-starts parent level owner v User = refl
+unmapped-starts parent level owner v Group = refl
 
 -- a namespace from its row, and from a free map
 pub namespace-read : (r : List ℕ) (u g : IdMap) → u ≡ mapOf (take mapWidth (drop (mapAt User) r)) → g ≡ mapOf (take mapWidth (drop (mapAt Group) r))
@@ -176,6 +174,10 @@ module _ (r : List ℕ) where
   unfolding mapFrom
   map-whole h = rw (eq-eqb (length r) mapWidth h)
 
+  pub starts-whole : length r ≡ mapWidth → startsFrom r ≡ startsIn r
+  unfolding startsFrom
+  starts-whole h = rw (eq-eqb (length r) mapWidth h)
+
   pub map-other : (length r ≡ mapWidth → ⊥) → mapFrom r ≡ freeMap
   unfolding mapFrom
   map-other h = rw (ne-eqb (length r) mapWidth h)
@@ -189,6 +191,9 @@ pub ruleset records = (
   line-round,
   kernel-round,
   map-round,
+  starts-round,
+  unmapped-round,
+  unmapped-starts,
   namespace-read,
   namespace-free,
   process-from,

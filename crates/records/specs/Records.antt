@@ -104,11 +104,10 @@ abbrev pub mapOf : List ℕ → IdMap
 mapOf ws = record {
   state = stateOf (getD ws 0 0) (getD ws 1 0);
   lines = tab (λ (j : ℕ). lineAt insideColumn parentColumn ws (firstLineAt + lineWords * j)) maxLines 0;
-  kernel = tab (λ (j : ℕ). lowAt ws (firstLineAt + lineWords * j + kernelColumn)) maxLines 0;
 }
 
 abbrev pub freeMap : IdMap
-freeMap = record { state = Unwritten; lines = replicate maxLines noLine; kernel = replicate maxLines 0 }
+freeMap = record { state = Unwritten; lines = replicate maxLines noLine }
 
 -- a namespace's row: whether it is live, its parent, its level, its owner, the words of its user map, those of its
 -- group map, and whether setgroups is denied
@@ -182,17 +181,46 @@ linesIf (Written n) ls = take n ls
 abbrev pub linesOf : IdMap → List Line
 linesOf m = linesIf (m .state) (m .lines)
 
--- ---- what the code keeps beside the lines. NOT to be believed: no definition reads it but those of
+-- a namespace with another map of a kind, and with another setgroups setting
+unfoldable pub withMap : Kind → Namespace → IdMap → Namespace
+withMap User n m = record { live = n .live; parent = n .parent; level = n .level; owner = n .owner; users = m; groups = n .groups; deny = n .deny }
+withMap Group n m = record { live = n .live; parent = n .parent; level = n .level; owner = n .owner; users = n .users; groups = m; deny = n .deny }
+
+unfoldable pub withDeny : Namespace → Bool → Namespace
+withDeny n d = record { live = n .live; parent = n .parent; level = n .level; owner = n .owner; users = n .users; groups = n .groups; deny = d }
+
+-- a namespace with both maps unwritten
+abbrev pub unmapped : ℕ → ℕ → ℕ → Bool → Namespace
+unmapped parent level owner deny = record { live = true; parent = parent; level = level; owner = owner; users = freeMap; groups = freeMap; deny = deny }
+
+-- ---- what the code keeps beside the lines of a map. NOT to be believed: no definition reads it but those of
 -- hierarchy/specs/KernelStarts.antt
--- a line with a kernel ID on the parent side
+-- the kernel starts that a map's words have, and those in a namespace's row
+abbrev pub startsIn : List ℕ → List ℕ
+startsIn ws = tab (λ (j : ℕ). lowAt ws (firstLineAt + lineWords * j + kernelColumn)) maxLines 0
+
+abbrev pub startsOf : Kind → List ℕ → List ℕ
+startsOf k r = startsIn (take mapWidth (drop (mapAt k) r))
+
+abbrev pub noStarts : List ℕ
+noStarts = replicate maxLines 0
+
+-- a row has none of either kind
+abbrev pub Cleared : List ℕ → Type 0
+Cleared r = (k : Kind) → startsOf k r ≡ noStarts
+
+-- a line with a kernel ID on the parent side, and lines with their kernel starts there
 abbrev pub onKernel : Line → ℕ → Line
 onKernel l y = record { inside = l .inside; parent = y; count = l .count }
 
--- the lines of a map with the kernel IDs on the parent side
-abbrev pub kernelLinesOf : IdMap → List Line
-kernelLinesOf m = zipWith onKernel (linesOf m) (m .kernel)
+abbrev pub onKernels : List Line → List ℕ → List Line
+onKernels ls ys = zipWith onKernel ls ys
 
--- words hold the lines of a map, and the same with the kernel IDs on the parent side
-pub record LinesOf (ws : List ℕ) (m : IdMap) : Type 0 where
+-- words hold the lines of a map, and the same with kernel starts ys on the parent side
+pub record LinesOf (ws : List ℕ) (m : IdMap) (ys : List ℕ) : Type 0 where
   pub written : linesIn ws ≡ linesOf m
-  pub kernel : kernelLinesIn ws ≡ kernelLinesOf m
+  pub kernel : kernelLinesIn ws ≡ onKernels (linesOf m) ys
+
+-- the kernel starts of a map's words, of which another number than a map's holds none
+unfoldable pub startsFrom : List ℕ → List ℕ
+startsFrom ws = cond (eqb (length ws) mapWidth) (startsIn ws) noStarts

@@ -3,7 +3,7 @@
 pub mod kinds;
 pub mod namespaces;
 pub mod processes;
-mod words;
+pub mod words;
 
 use capability::CapabilitySet;
 use idmap::Line;
@@ -59,12 +59,9 @@ pub enum MapState {
     Written(usize),
 }
 
-// A map: its lines as they were written, and beside each the kernel ID where its parent side starts, which is kept so
-// that one lookup translates through all levels.
 pub struct IdMap {
     pub state: MapState,
     pub lines: [Line; MAX_LINES],
-    pub kernel: [u32; MAX_LINES],
 }
 
 pub struct Namespace {

@@ -4,7 +4,7 @@ ghost use Prim.Native.Nat.{_+_, _*_, _<_};
 ghost use lib.ListN.{length};
 ghost use Rattle.idmap.specs.Good.{maxLines};
 ghost use Rattle.idmap.specs.Line.{lineWords, insideColumn, parentColumn, kernelColumn, lineOf, lineAt};
-ghost use Rattle.records.specs.Records.{lowAt, stateOf, stateTag, stateCount, firstLineAt, mapWidth, mapAt, mapOf, mapFrom, LinesOf, freeMap, freeNamespace, namespaceWidth, namespaceOf, namespaceFrom};
+ghost use Rattle.records.specs.Records.{lowAt, startsIn, startsFrom, Cleared, unmapped, stateOf, stateTag, stateCount, firstLineAt, mapWidth, mapAt, mapOf, mapFrom, LinesOf, freeMap, freeNamespace, namespaceWidth, namespaceOf, namespaceFrom};
 use crate::IdMap;
 use crate::Kind;
 use crate::MapState;
@@ -45,7 +45,7 @@ const USER_MAP: usize = OWNER + 1;
 
 const GROUP_MAP: usize = USER_MAP + MAP_WIDTH;
 
-const DENY: usize = GROUP_MAP + MAP_WIDTH;
+pub const DENY: usize = GROUP_MAP + MAP_WIDTH;
 
 // The words of a namespace's row.
 pub const NAMESPACE_WIDTH: usize = DENY + 1;
@@ -101,15 +101,6 @@ fn line_of(words: &[u64], i: usize) -> Line
     }
 }
 
-// The kernel start of line `i`.
-fn kernel_of(words: &[u64], i: usize) -> u32
-    requires { ⌜ (i < maxLines) × (length (now words) ≡ mapWidth) ⌝ }
-    ensures { λ r. ⌜ r ≡ lowAt (now (words .entry)) (firstLineAt + lineWords * i + kernelColumn) ⌝ }
-{
-    let at = LINES + LINE_WORDS * i;
-    (words[at + idmap::KERNEL] % TWO_TO_32) as u32
-}
-
 // The map that a map's words hold.
 fn map_of(words: &[u64]) -> IdMap
     requires { ⌜ length (now words) ≡ mapWidth ⌝ }
@@ -120,17 +111,9 @@ fn map_of(words: &[u64]) -> IdMap
     let c = line_of(words, 2);
     let d = line_of(words, 3);
     let e = line_of(words, 4);
-    let kernel = [
-        kernel_of(words, 0),
-        kernel_of(words, 1),
-        kernel_of(words, 2),
-        kernel_of(words, 3),
-        kernel_of(words, 4),
-    ];
     IdMap {
         state: state_of(words[STATE], words[COUNT]),
         lines: [a, b, c, d, e],
-        kernel: kernel,
     }
 }
 
@@ -147,13 +130,13 @@ fn line_words(l: Line, kernel: u32) -> [u64; LINE_WORDS]
     ]
 }
 
-// The words that are read as a map.
-pub fn map_words(m: IdMap) -> [u64; MAP_WIDTH]
-    ensures { λ r. ⌜ mapOf r ≡ m ⌝ }
+// The words that are read as a map and the kernel starts of its lines.
+pub fn map_words(m: IdMap, kernel: [u32; MAX_LINES]) -> [u64; MAP_WIDTH]
+    ensures written { λ r. ⌜ mapOf r ≡ m ⌝ }
+    ensures kept { λ r. ⌜ startsIn r ≡ kernel ⌝ }
 {
     let state = m.state;
     let lines = m.lines;
-    let kernel = m.kernel;
     let a = line_words(lines[0], kernel[0]);
     let b = line_words(lines[1], kernel[1]);
     let c = line_words(lines[2], kernel[2]);
@@ -203,65 +186,18 @@ fn read_namespace(row: &[u64]) -> Namespace
     }
 }
 
-// The row of a record: the words that are read as it.
-pub fn namespace_words(n: Namespace) -> [u64; NAMESPACE_WIDTH]
-    ensures { λ r. ⌜ namespaceOf r ≡ n ⌝ }
+// The row of a namespace with both maps unwritten.
+pub fn unmapped_words(parent: u64, level: u64, owner: u32, deny: bool) -> [u64; NAMESPACE_WIDTH]
+    ensures read { λ r. ⌜ namespaceOf r ≡ unmapped parent level owner deny ⌝ }
+    ensures cleared { λ r. ⌜ Cleared r ⌝ }
 {
-    let users = n.users;
-    let groups = n.groups;
-    let u = map_words(users);
-    let g = map_words(groups);
-    [
-        flag_word(n.live),
-        n.parent,
-        n.level,
-        n.owner as u64,
-        u[0],
-        u[1],
-        u[2],
-        u[3],
-        u[4],
-        u[5],
-        u[6],
-        u[7],
-        u[8],
-        u[9],
-        u[10],
-        u[11],
-        u[12],
-        u[13],
-        u[14],
-        u[15],
-        u[16],
-        u[17],
-        u[18],
-        u[19],
-        u[20],
-        u[21],
-        g[0],
-        g[1],
-        g[2],
-        g[3],
-        g[4],
-        g[5],
-        g[6],
-        g[7],
-        g[8],
-        g[9],
-        g[10],
-        g[11],
-        g[12],
-        g[13],
-        g[14],
-        g[15],
-        g[16],
-        g[17],
-        g[18],
-        g[19],
-        g[20],
-        g[21],
-        flag_word(n.deny),
-    ]
+    let mut row: [u64; NAMESPACE_WIDTH] = [0; NAMESPACE_WIDTH];
+    row[LIVE] = 1;
+    row[PARENT] = parent;
+    row[LEVEL] = level;
+    row[OWNER] = owner as u64;
+    row[DENY] = flag_word(deny);
+    row
 }
 
 // A map that is not written.
@@ -271,7 +207,6 @@ pub fn free_map() -> IdMap
     IdMap {
         state: MapState::Unwritten,
         lines: [NO_LINE; MAX_LINES],
-        kernel: [0; MAX_LINES],
     }
 }
 
@@ -305,7 +240,7 @@ pub fn namespace_of(row: &[u64]) -> Namespace
 // The words of the lines that a map's words hold, if it is written.
 fn written_lines(words: &[u64]) -> &[u64]
     requires { ⌜ length (now words) ≡ mapWidth ⌝ }
-    ensures { λ r. ⌜ LinesOf (now r) (mapOf (now (words .entry))) ⌝ }
+    ensures { λ r. ⌜ LinesOf (now r) (mapOf (now (words .entry))) (startsIn (now (words .entry))) ⌝ }
 {
     if words[STATE] == WRITTEN {
         let n = words[COUNT];
@@ -321,7 +256,7 @@ fn written_lines(words: &[u64]) -> &[u64]
 
 // The words of the written lines of a map, among the words that hold the map. Words of another number hold none.
 pub fn lines_of(words: &[u64]) -> &[u64]
-    ensures { λ r. ⌜ LinesOf (now r) (mapFrom (now (words .entry))) ⌝ }
+    ensures { λ r. ⌜ LinesOf (now r) (mapFrom (now (words .entry))) (startsFrom (now (words .entry))) ⌝ }
 {
     if words.len() == MAP_WIDTH {
         written_lines(words)

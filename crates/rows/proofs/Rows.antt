@@ -6,7 +6,7 @@ use mathlib.Core.Logic.{⊎-elim, _⊎_, inl, inr}
 use native.Mathlib.Omega.{arith}
 use native.Mathlib.Nat.{zero-mul, suc-mul, not-suc-le-zero, le-of-suc-le-suc}
 use lib.ListN.{length, getD, set, List·getD-eq-default}
-use lib.Seq.{set-out}
+use lib.Seq.{set-out, set-getD}
 use Rattle.prelude.specs.Parts.{part, putAt}
 use Rattle.rows.specs.Rows.{rows}
 use Rattle.prelude.proofs.Parts.{part-put-same, part-put-apart}
@@ -66,3 +66,23 @@ module _ {A : Type 0} (dec : List ℕ → A) (w : ℕ) where
   pub row-put : (n at : ℕ) (l : List ℕ) (i : ℕ) (vs : List ℕ) (k : ℕ) → k ≡ at + i * w → i < n → length vs ≡ w → at + n * w ≤ length l
       → rows dec w n at (putAt l k vs) ≡ set (rows dec w n at l) i (dec vs)
   row-put n at l i vs k q h e fits = rw q (rows-put n at l i vs h e fits)
+
+  -- words put within row i change that row, and no other: the row is read anew
+  pub rows-within : (n at : ℕ) (l : List ℕ) (i k : ℕ) (vs : List ℕ) → i < n → k + length vs ≤ w
+      → rows dec w n at (putAt l (at + i * w + k) vs) ≡ set (rows dec w n at l) i (dec (part w (at + i * w) (putAt l (at + i * w + k) vs)))
+  unfolding rows
+  rows-within zero at l i k vs h e = absurd (not-suc-le-zero h)
+  rows-within (suc n) at l zero k vs h e =
+      let z : at + 0 * w ≡ at = omega (arith, zero-mul w) in
+      rw z (ap (λ (xs : List A). dec (part w at (putAt l (at + k) vs)) ∷ xs) (rows-apart n (at + w) l (at + k) vs (inl (omega arith))))
+  rows-within (suc n) at l (suc i) k vs h e =
+      let s : at + suc i * w ≡ at + w + i * w = omega (arith, suc-mul i w) in
+      rw s (ap₂ (λ (x : A) (xs : List A). x ∷ xs)
+      (ap dec (part-put-apart l (at + w + i * w + k) vs w at (inr (omega arith))))
+      (rows-within n (at + w) l i k vs (le-of-suc-le-suc h) e))
+
+  -- a row that reads as before leaves all as they were
+  pub rows-still : (n at : ℕ) (l : List ℕ) (i k : ℕ) (vs : List ℕ) (d : A) → i < n → k + length vs ≤ w
+      → dec (part w (at + i * w) (putAt l (at + i * w + k) vs)) ≡ dec (part w (at + i * w) l) → rows dec w n at (putAt l (at + i * w + k) vs) ≡ rows dec w n at l
+  rows-still n at l i k vs d h e q =
+      rows-within n at l i k vs h e ∙ ap (set (rows dec w n at l) i) (q ∙ sym (getD-rows n at l i d h)) ∙ set-getD (rows dec w n at l) i d

@@ -2,7 +2,7 @@
 use Prim.Native.Nat.{ℕ, _+_, _≤_, _<_}
 use mathlib.Core.Path.{_≡_, refl, sym, ap, _∙_}
 use mathlib.Core.List.{List, append-nil}
-use mathlib.Core.Bool.{true, false}
+use mathlib.Core.Bool.{false}
 use native.Mathlib.Nat.{zero-add}
 use native.Mathlib.Numerals.{add-one}
 use native.Mathlib.Omega.{arith}
@@ -11,11 +11,11 @@ use lib.Seq.{paste, paste-zero, paste-suc, take-all}
 use lib.ListN.{getD-replicate}
 use borrow.Author.Needs.{needs}
 use Rattle.records.specs.declared.Process.{Process}
-use Rattle.records.specs.declared.Namespace.{Namespace}
+use Rattle.records.specs.declared.Kind.the-variants.{User, Group}
 use Rattle.records.specs.declared.IdMap.{IdMap}
-use Rattle.records.specs.Records.{freeProcess, freeNamespace}
-use Rattle.tables.specs.Tables.{State, processPlaces, namespacePlaces, tablesOf, putProcess, putNamespace, withProcesses, withNamespaces, firstProcess, fixedMap, rootNamespace, initialTables}
-use Rattle.tables.proofs.Tables.{length-processes, length-namespaces}
+use Rattle.records.specs.Records.{freeProcess, freeNamespace, withMap, unmapped, noStarts}
+use Rattle.tables.specs.Tables.{State, processPlaces, namespacePlaces, tablesOf, namespaceAt, putProcess, putNamespace, putMap, clearStarts, withProcesses, firstProcess, fixedMap, withoutNamespaces, initialTables}
+use Rattle.tables.proofs.Tables.{length-processes, length-namespaces, length-starts}
 
 module _ {A : Type 0} (qs ps : List A) where
   fill-more : (i : ℕ) (d : A) → i < length qs → i < length ps → set (paste qs 0 ps i) i (getD ps i d) ≡ paste qs 0 ps (i + 1)
@@ -59,35 +59,62 @@ module _ (l : List ℕ) where
         let j = length-places in
         inv ∙ ap (withProcesses (tablesOf l)) (fill-all (tablesOf l .processes) (initialTables .processes) i (omega arith) (omega arith))
 
--- ---- namespaces
-pub namespacesIn : State → ℕ → State
-namespacesIn s i = withNamespaces s (paste (s .namespaces) 0 (replicate namespacePlaces freeNamespace) i)
+-- ---- namespaces: the first i places are cleared
+pub clearedTo : State → ℕ → State
+clearedTo s i = record {
+  processes = s .processes;
+  namespaces = paste (s .namespaces) 0 (replicate namespacePlaces freeNamespace) i;
+  userStarts = paste (s .userStarts) 0 (replicate namespacePlaces noStarts) i;
+  groupStarts = paste (s .groupStarts) 0 (replicate namespacePlaces noStarts) i;
+}
+
+-- one place more of a list that is made the same everywhere
+same-more : {A : Type 0} (qs : List A) (d : A) (i : ℕ) → length qs ≡ namespacePlaces → i < namespacePlaces → set (paste qs 0 (replicate namespacePlaces d) i) i d ≡ paste qs 0 (replicate namespacePlaces d) (i + 1)
+same-more {A} qs d i k h =
+    let e : getD (replicate namespacePlaces d) i d ≡ d = getD-replicate namespacePlaces i d d h in
+    ap (λ (x : A). set (paste qs 0 (replicate namespacePlaces d) i) i x) (sym e) ∙ fill-more qs (replicate namespacePlaces d) i d (omega arith) h
 
 module _ (l : List ℕ) where
-  pub namespaces-none : tablesOf l ≡ namespacesIn (tablesOf l) 0
-  unfolding namespacesIn
-  namespaces-none = ap (withNamespaces (tablesOf l)) (paste-zero (tablesOf l .namespaces) 0 (replicate namespacePlaces freeNamespace))
+  pub cleared-none : tablesOf l ≡ clearedTo (tablesOf l) 0
+  unfolding clearedTo
+  cleared-none = λ i. record {
+    processes = tablesOf l .processes;
+    namespaces = paste-zero (tablesOf l .namespaces) 0 (replicate namespacePlaces freeNamespace) i;
+    userStarts = paste-zero (tablesOf l .userStarts) 0 (replicate namespacePlaces noStarts) i;
+    groupStarts = paste-zero (tablesOf l .groupStarts) 0 (replicate namespacePlaces noStarts) i;
+  }
 
-  module _ (l′ : List ℕ) (i : ℕ) (inv : tablesOf l′ ≡ namespacesIn (tablesOf l) i) where
-    pub namespaces-more : (free : Namespace) (s : State) → i < namespacePlaces → free ≡ freeNamespace → s ≡ putNamespace (tablesOf l′) i free → s ≡ namespacesIn (tablesOf l) (i + 1)
-    unfolding namespacesIn
-    namespaces-more free s h q e =
-        let k = length-namespaces l in
-        let d : getD (replicate namespacePlaces freeNamespace) i freeNamespace ≡ freeNamespace = getD-replicate namespacePlaces i freeNamespace freeNamespace h in
-        e ∙ rw (q, inv) (ap (λ (n : Namespace). withNamespaces (tablesOf l) (set (paste (tablesOf l .namespaces) 0 (replicate namespacePlaces freeNamespace) i) i n)) (sym d) ∙ ap (withNamespaces (tablesOf l)) (fill-more (tablesOf l .namespaces) (replicate namespacePlaces freeNamespace) i freeNamespace (omega arith) h))
+  module _ (l′ : List ℕ) (i : ℕ) (inv : tablesOf l′ ≡ clearedTo (tablesOf l) i) where
+    pub cleared-more : (s : State) → i < namespacePlaces → s ≡ clearStarts (putNamespace (tablesOf l′) i freeNamespace) i → s ≡ clearedTo (tablesOf l) (i + 1)
+    unfolding clearedTo
+    cleared-more s h e =
+        e ∙ rw inv (λ j. record {
+          processes = tablesOf l .processes;
+          namespaces = same-more (tablesOf l .namespaces) freeNamespace i (length-namespaces l) h j;
+          userStarts = same-more (tablesOf l .userStarts) noStarts i (length-starts User l) h j;
+          groupStarts = same-more (tablesOf l .groupStarts) noStarts i (length-starts Group l) h j;
+        })
 
-    pub namespaces-all : (root : Namespace) (s : State) → namespacePlaces ≤ i → root ≡ rootNamespace → s ≡ putNamespace (tablesOf l′) 0 root → s ≡ withNamespaces (tablesOf l) (initialTables .namespaces)
-    unfolding namespacesIn initialTables
-    namespaces-all root s h q e =
-        let k = length-namespaces l in
-        e ∙ rw (q, inv, fill-all (tablesOf l .namespaces) (replicate namespacePlaces freeNamespace) i (omega arith) h)
+    pub cleared-all : namespacePlaces ≤ i → tablesOf l′ ≡ withoutNamespaces (tablesOf l)
+    unfolding clearedTo withoutNamespaces
+    cleared-all h =
+        let n = length-namespaces l in
+        let u = length-starts User l in
+        let g = length-starts Group l in
+        inv ∙ (λ j. record {
+          processes = tablesOf l .processes;
+          namespaces = fill-all (tablesOf l .namespaces) (replicate namespacePlaces freeNamespace) i (omega arith) h j;
+          userStarts = fill-all (tablesOf l .userStarts) (replicate namespacePlaces noStarts) i (omega arith) h j;
+          groupStarts = fill-all (tablesOf l .groupStarts) (replicate namespacePlaces noStarts) i (omega arith) h j;
+        })
 
 -- ---- the root, and all
-pub root-made : (m : IdMap) → m ≡ fixedMap → record { live = true; parent = 0; level = 0; owner = 0; users = m; groups = m; deny = false } ≡ rootNamespace
-root-made m e = rw e
+pub root-made : (s₀ s₁ s₂ s₃ s₄ : State) (u g : IdMap) → s₁ ≡ withoutNamespaces s₀ → s₂ ≡ clearStarts (putNamespace s₁ 0 (unmapped 0 0 0 false)) 0
+    → u ≡ fixedMap → s₃ ≡ putMap s₂ User 0 u noStarts → g ≡ fixedMap → s₄ ≡ putMap s₃ Group 0 g noStarts → s₄ ≡ withProcesses initialTables (s₀ .processes)
+unfolding withoutNamespaces putMap namespaceAt withMap initialTables
+root-made s₀ s₁ s₂ s₃ s₄ u g e f p q r t = rw (t, q, f, e, r, p)
 
-pub all-filled : (s₀ s₁ s₂ : State) → s₁ ≡ withProcesses s₀ (initialTables .processes) → s₂ ≡ withNamespaces s₁ (initialTables .namespaces) → s₂ ≡ initialTables
-unfolding initialTables
+pub all-filled : (s₀ s₁ s₂ : State) → s₁ ≡ withProcesses s₀ (initialTables .processes) → s₂ ≡ withProcesses initialTables (s₁ .processes) → s₂ ≡ initialTables
 all-filled s₀ s₁ s₂ e q = q ∙ rw e
 
 pub ruleset filling = (
@@ -95,9 +122,9 @@ pub ruleset filling = (
   processes-none,
   processes-more,
   processes-all,
-  namespaces-none,
-  namespaces-more,
-  namespaces-all,
+  cleared-none,
+  cleared-more,
+  cleared-all,
   root-made,
   all-filled,
   needs,

@@ -1,9 +1,11 @@
 // The tables as they are at the start.
 ghost use mathlib.Core.Path.{_≡_};
-ghost use Rattle.tables.specs.Tables.{tablesOf, firstProcess, fixedMap, rootNamespace, initialTables, withProcesses, withNamespaces};
+ghost use Rattle.tables.specs.Tables.{tablesOf, firstProcess, fixedMap, initialTables, withProcesses, withoutNamespaces};
 use crate::NAMESPACE_PLACES;
 use crate::PROCESS_PLACES;
 use crate::Tables;
+use crate::namespaces::map_put;
+use crate::namespaces::namespace_clear;
 use crate::namespaces::namespace_put;
 use crate::processes::process_put;
 use capability::CapabilitySet;
@@ -12,12 +14,11 @@ use idmap::MAX_LINES;
 use idmap::NO_ID;
 use idmap::NO_LINE;
 use records::IdMap;
+use records::Kind;
 use records::MapState;
 use records::NO_GROUPS;
-use records::Namespace;
 use records::Process;
 use records::ZERO_IDS;
-use records::namespaces::free_namespace;
 use records::processes::free_process;
 
 fn first_process() -> Process
@@ -45,22 +46,6 @@ fn fixed_map() -> IdMap
     IdMap {
         state: MapState::Written(1),
         lines: [fixed, NO_LINE, NO_LINE, NO_LINE, NO_LINE],
-        kernel: [0; MAX_LINES],
-    }
-}
-
-fn root_namespace() -> Namespace
-    ensures { λ r. ⌜ r ≡ rootNamespace ⌝ }
-{
-    let map = fixed_map();
-    Namespace {
-        live: true,
-        parent: 0,
-        level: 0,
-        owner: 0,
-        users: map,
-        groups: map,
-        deny: false,
     }
 }
 
@@ -77,15 +62,23 @@ fn fill_processes(t: &mut Tables)
     }
 }
 
+// No namespace in any place.
+fn clear_namespaces(t: &mut Tables)
+    ensures { λ r. ⌜ tablesOf (now (t .exit)) ≡ withoutNamespaces (tablesOf (now (t .entry))) ⌝ }
+{
+    for i in 0..NAMESPACE_PLACES {
+        namespace_clear(t, i);
+    }
+}
+
 // No namespace but the initial one.
 fn fill_namespaces(t: &mut Tables)
-    ensures { λ r. ⌜ tablesOf (now (t .exit)) ≡ withNamespaces (tablesOf (now (t .entry))) (initialTables .namespaces) ⌝ }
+    ensures { λ r. ⌜ tablesOf (now (t .exit)) ≡ withProcesses initialTables (tablesOf (now (t .entry)) .processes) ⌝ }
 {
-    let free = free_namespace();
-    for i in 0..NAMESPACE_PLACES {
-        namespace_put(t, i, free);
-    }
-    namespace_put(t, 0, root_namespace());
+    clear_namespaces(t);
+    namespace_put(t, 0, 0, 0, 0, false);
+    map_put(t, 0, Kind::User, fixed_map(), [0; MAX_LINES]);
+    map_put(t, 0, Kind::Group, fixed_map(), [0; MAX_LINES]);
 }
 
 // The initial tables, whatever stood in the array.

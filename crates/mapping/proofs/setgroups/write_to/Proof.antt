@@ -14,12 +14,10 @@ write-to-spec =
     (λ c. search settings)  -- enum-told-2
     (λ c κs. search settings)  -- is-written-requires
     (λ c. search settings)  -- returns-2
-    (λ c κs. search settings)  -- with-deny-requires
-    (λ c κs. search settings)  -- namespace-put-requires
+    (λ c κs. search settings)  -- deny-put-requires
     (λ c. search settings)  -- enum-told-3
     (λ c. search settings)  -- returns-3
-    (λ c κs. search settings)  -- with-deny-requires-2
-    (λ c κs. search settings)  -- namespace-put-requires-2
+    (λ c κs. search settings)  -- deny-put-requires-2
     (λ c. search settings)  -- returns-4
     (λ c. search settings)  -- returns-5
     (λ c. search settings))  -- returns-6

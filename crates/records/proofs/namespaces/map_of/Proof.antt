@@ -11,11 +11,6 @@ map-of-spec =
     (λ c κs. search records)  -- line-of-requires-3
     (λ c κs. search records)  -- line-of-requires-4
     (λ c κs. search records)  -- line-of-requires-5
-    (λ c κs. search records)  -- kernel-of-requires
-    (λ c κs. search records)  -- kernel-of-requires-2
-    (λ c κs. search records)  -- kernel-of-requires-3
-    (λ c κs. search records)  -- kernel-of-requires-4
-    (λ c κs. search records)  -- kernel-of-requires-5
     (λ c. search records)  -- shared-slice-read-state-of
     (λ c. search records)  -- shared-slice-read-state-of-2
     (λ c κs. search records)  -- state-of-requires

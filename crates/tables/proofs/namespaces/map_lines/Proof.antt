@@ -8,10 +8,9 @@ map-lines-spec =
     tie.close (tie.spec
     (λ c κs. search lines)  -- get-requires
     (λ c. search lines)  -- returns
-    (λ c. search lines)  -- mul-get
-    (λ c. search lines)  -- add-get
+    (λ c κs. search lines)  -- row-at-requires
     (λ c κs. search lines)  -- map-at-requires
-    (λ c. search lines)  -- add-get-2
+    (λ c. search lines)  -- add-get
     (λ c κs. search lines)  -- get-requires-2
     (λ c κs. search lines)  -- lines-of-requires
     (λ c. search lines))  -- returns-2

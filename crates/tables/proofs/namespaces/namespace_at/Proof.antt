@@ -6,8 +6,7 @@ use Rattle.tables.proofs.namespaces.namespace_at.Tie as tie
 pub namespace-at-spec : {M : Type 1} → statement M
 namespace-at-spec =
     tie.close (tie.spec
-    (λ c. search loads)  -- mul-get
-    (λ c. search loads)  -- add-get
+    (λ c κs. search loads)  -- row-at-requires
     (λ c κs. search loads)  -- get-requires
     (λ c κs. search loads)  -- namespace-of-requires
     (λ c κs. search loads)  -- free-namespace-requires
