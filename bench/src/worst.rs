@@ -77,15 +77,10 @@ fn credentials() -> Vec<Row> {
     ]
 }
 
-/// A list of groups that is not full can take longer than a full one, since its last places are emptied.
 fn questions() -> Vec<Row> {
-    let sixteen = State::worst(LAST_LEVEL);
-    let mut fifteen = sixteen.clone();
-    let groups = state::sixteen_groups()[1..].to_vec();
-    fifteen.make(Call::Setgroups { caller: DEEPEST, groups });
+    let state = State::worst(LAST_LEVEL);
     vec![
-        cases::own_ids("getids, 15 groups, level 32, worst", &fifteen, DEEPEST, NONE),
-        cases::own_ids("getids, 16 groups, level 32, worst", &sixteen, DEEPEST, NONE),
-        cases::capable("capable, 32 levels up, worst", &sixteen, LAST_LEVEL),
+        cases::own_ids("getids, 16 groups, level 32, worst", &state, DEEPEST, NONE),
+        cases::capable("capable, 32 levels up, worst", &state, LAST_LEVEL),
     ]
 }

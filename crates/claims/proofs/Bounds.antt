@@ -2,21 +2,19 @@
 use Prim.Native.Nat.{ℕ, zero, suc, _≤_, _<_}
 use mathlib.Core.Path.{_≡_, refl, sym, ap, _∙_, subst}
 use mathlib.Core.Bool.{Bool, true, false, true≢false}
-use mathlib.Core.List.{List, [], _∷_}
+use mathlib.Core.List.{List}
 use mathlib.Core.Option.{Option, none, some}
 use mathlib.Core.Logic.{_↔_}
-use native.Mathlib.Nat.{le-of-suc-le-suc}
 use native.Mathlib.Omega.{arith}
 use lib.Dec.{eqb}
 use lib.ListN.{length, getD}
 use borrow.Author.Tests.{eq-eqb, ne-eqb, eqb-true, eqb-false}
 use Rattle.capability.specs.Sets.{holds}
 use Rattle.idmap.specs.declared.Line.{Line}
-use Rattle.idmap.specs.declared.Translated.{Translated}
-use Rattle.idmap.specs.declared.Translated.the-variants.{Id, Unmapped}
-use Rattle.idmap.specs.Lookup.{out, thenId, back}
+use Rattle.idmap.specs.declared.Translated.the-variants.{Unmapped}
+use Rattle.idmap.specs.Lookup.{out, back}
 use Rattle.idmap.specs.Line.{noLine}
-use Rattle.idmap.specs.Good.{maxLines, Within}
+use Rattle.idmap.specs.Good.{maxLines}
 use Rattle.idmap.specs.Ranges.{liesWhole, HasLine}
 use Rattle.idmap.proofs.Goodness.{good-means}
 use Rattle.idmap.proofs.Ranges.{whole-has-line}
@@ -30,7 +28,7 @@ use Rattle.mapping.specs.Calls.{allWhole}
 use Rattle.credentials.specs.declared.translate.Way.the-variants.{Out, Back}
 use Rattle.calls.specs.Calls.{Request}
 use Rattle.prelude.proofs.Tests.{by-test, and-left, and-right, and-i}
-use Rattle.claims.specs.Translation.{outBy, backBy, byLevels}
+use Rattle.claims.specs.Translation.{byLevels}
 use Rattle.claims.specs.Events.{Event}
 use Rattle.claims.specs.Words.{Held, isNamespace, parentOf, levelOf, writtenOf, orNone, writtenLines, held}
 use Rattle.claims.specs.TopLevel.{OnParentSide, Has}

@@ -1,8 +1,8 @@
 -- A range of IDs that lies whole in one line goes out as one, so that lines with kernel starts on their parent side give
 -- what the maps give level by level, whatever gives parents and maps. Assumes nothing.
 use Prim.Native.Nat.{ℕ, zero, suc, _+_, _-_, _≤_, _<_, _^_}
-use mathlib.Core.Path.{_≡_, refl, sym, ap, _∙_, subst}
-use mathlib.Core.Bool.{true, false, _&&_}
+use mathlib.Core.Path.{_≡_, refl, sym, ap, _∙_}
+use mathlib.Core.Bool.{true}
 use mathlib.Core.List.{List, [], _∷_, zipWith}
 use native.Mathlib.Omega.{arith}
 use lib.Dec.{eqb}
@@ -17,7 +17,7 @@ use Rattle.idmap.specs.Good.{noId, goodOf, allApart, Within, Bounded, Apart}
 use Rattle.idmap.specs.Ranges.{liesWhole}
 use Rattle.idmap.proofs.Interval.{in-interval}
 use Rattle.idmap.proofs.Goodness.{bounded-test, apart-test, bounded-of, good-first, good-others, good-apart, apart-first-of}
-use Rattle.idmap.proofs.Translation.{out-here, out-later, moved-is}
+use Rattle.idmap.proofs.Translation.{moved-is}
 use Rattle.idmap.proofs.Ranges.{OneHas, whole-in, whole-part}
 use Rattle.records.specs.Records.{onKernel}
 use Rattle.mapping.specs.Calls.{allWhole}

@@ -1,6 +1,6 @@
 -- Translation in the words of the code: each law's premises are what a place knows. Assumes nothing.
 use Prim.Native.Nat.{ℕ}
-use mathlib.Core.Path.{_≡_, refl, ap, _∙_}
+use mathlib.Core.Path.{_≡_, refl, _∙_}
 use mathlib.Core.List.{List}
 use borrow.Author.Needs.{needs}
 use borrow.Author.Tests.{eq-eqb, ne-eqb}
@@ -13,7 +13,7 @@ use Rattle.records.specs.declared.Kind.{Kind}
 use Rattle.records.specs.Records.{mapIn, LinesOf}
 use Rattle.tables.specs.Tables.{State, namespaceAt, startsAt}
 use Rattle.hierarchy.specs.Walks.{itself}
-use Rattle.hierarchy.specs.KernelStarts.{kernelLinesAt, toKernel, fromKernel}
+use Rattle.hierarchy.specs.KernelStarts.{toKernel, fromKernel}
 
 -- ---- the initial namespace
 pub itself-none : (x : ℕ) → x ≡ noId → Unmapped ≡ itself x

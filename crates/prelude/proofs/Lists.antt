@@ -1,13 +1,13 @@
 -- Loops over lists: what a loop over the first n elements has left, and what one that fills a list has made so far.
 -- Assumes nothing.
 use mathlib.Core.Path.{_≡_, refl, sym, ap, _∙_}
-use mathlib.Core.List.{List, [], _∷_, _++_, map, zipWith}
+use mathlib.Core.List.{List, [], _∷_, _++_, zipWith}
 use Prim.Native.Nat.{ℕ, zero, suc, _+_, _-_, _<_, _≤_, min}
 use native.Mathlib.Numerals.{add-one}
 use native.Mathlib.Omega.{arith}
 use lib.Dec.{leb}
 use lib.ListN.{length, take, drop, getD, set, replicate, length-take, take-append-drop, drop-of-length-le}
-use lib.Seq.{drop-cons, drop-drop, drop-set-lt, getD-set-same, getD-take, length-take-le, lt-length-set, take-all, take-set-le, take-suc, take-suc-set, take-take}
+use lib.Seq.{drop-cons, drop-drop, drop-set-lt, getD-take, length-take-le, take-all, take-suc, take-suc-set}
 use borrow.Author.Tests.{leb-true, leb-false}
 use Rattle.prelude.proofs.Tests.{by-test}
 
@@ -39,49 +39,12 @@ module _ {A : Type 0} (l t : List A) (i n : ℕ) (front : take i t ≡ take i l)
   copy-all h = sym (take-all i t (omega arith)) ∙ front ∙ take-all i l (omega arith)
 
 -- two lists that are joined element by element
-length-zip : {A B C : Type 0} (f : A → B → C) (xs : List A) (ys : List B) → length ys ≡ length xs → length (zipWith f xs ys) ≡ length xs
-unfolding zipWith
-length-zip f [] ys e = refl
-length-zip f (x ∷ xs) [] e = absurd (omega arith)
-length-zip f (x ∷ xs) (y ∷ ys) e = ap suc (length-zip f xs ys (omega arith))
-
-getD-zip : {A B C : Type 0} (f : A → B → C) (xs : List A) (ys : List B) (i : ℕ) (a : A) (b : B) (c : C) → i < length xs → i < length ys
-    → getD (zipWith f xs ys) i c ≡ f (getD xs i a) (getD ys i b)
-unfolding zipWith
-getD-zip f [] ys i a b c h k = absurd (omega arith)
-getD-zip f (x ∷ xs) [] i a b c h k = absurd (omega arith)
-getD-zip f (x ∷ xs) (y ∷ ys) zero a b c h k = refl
-getD-zip f (x ∷ xs) (y ∷ ys) (suc i) a b c h k = getD-zip f xs ys i a b c (omega arith) (omega arith)
-
--- with what a function makes of the first list
-pub zip-map : {A B C : Type 0} (f : A → B → C) (g : A → B) (xs : List A) → zipWith f xs (map g xs) ≡ map (λ (x : A). f x (g x)) xs
-unfolding zipWith
-zip-map f g [] = refl
-zip-map {C = C} f g (x ∷ xs) = ap (λ (l : List C). f x (g x) ∷ l) (zip-map f g xs)
-
-pub take-map : {A B : Type 0} (f : A → B) (n : ℕ) (xs : List A) → take n (map f xs) ≡ map f (take n xs)
-take-map f zero xs = refl
-take-map f (suc n) [] = refl
-take-map {B = B} f (suc n) (x ∷ xs) = ap (λ (l : List B). f x ∷ l) (take-map f n xs)
-
 pub zip-take : {A B C : Type 0} (f : A → B → C) (n : ℕ) (xs : List A) (ys : List B) → take n (zipWith f xs ys) ≡ zipWith f (take n xs) ys
 unfolding zipWith
 zip-take f zero xs ys = refl
 zip-take f (suc n) [] ys = refl
 zip-take f (suc n) (x ∷ xs) [] = refl
 zip-take {C = C} f (suc n) (x ∷ xs) (y ∷ ys) = ap (λ (l : List C). f x y ∷ l) (zip-take f n xs ys)
-
--- a loop that joins them: the first i are in place
-module _ {A B C : Type 0} (f : A → B → C) (xs : List A) (ys : List B) (t : List C) (i n : ℕ) (front : take i t ≡ take i (zipWith f xs ys)) (long : length t ≡ n)
-    (one : length xs ≡ n) (other : length ys ≡ n) where
-  pub zip-step : (a : A) (b : B) (v : C) → i < n → v ≡ f (getD xs i a) (getD ys i b) → take (i + 1) (set t i v) ≡ take (i + 1) (zipWith f xs ys)
-  zip-step a b v h e =
-      let all : length (zipWith f xs ys) ≡ n = length-zip f xs ys (omega arith) ∙ one in
-      let at : getD (zipWith f xs ys) i v ≡ v = getD-zip f xs ys i a b v (omega arith) (omega arith) ∙ sym e in
-      ap (λ (w : C). take (i + 1) (set t i w)) (sym at) ∙ copy-step (zipWith f xs ys) t i n front long all v h
-
-  pub zip-all : n ≤ i → t ≡ zipWith f xs ys
-  zip-all h = copy-all (zipWith f xs ys) t i n front long (length-zip f xs ys (omega arith) ∙ one) h
 
 -- an array of n, of which the first i are made and the others are empty
 module _ {A : Type 0} (made : List A) (i n : ℕ) (z : A) (rest : drop i made ≡ replicate (n - i) z) where
@@ -103,24 +66,7 @@ module _ {A : Type 0} (n : ℕ) (z : A) (made : List A) where
   unfolding MadeTo
   made-starts = let e : n - 0 ≡ n = omega arith in (refl, rw e)
 
-  -- all of them
-  pub made-all : length made ≡ n → MadeTo n z made made n
-  unfolding MadeTo
-  made-all full = let none : n - n ≡ 0 = omega arith in (refl, rw none (drop-of-length-le made {i = n} (omega arith)))
-
   module _ (r : List A) (i : ℕ) (inv : MadeTo n z made r i) (long : length r ≡ n) where
-    -- one less
-    pub made-back : i ≤ n → 0 < i → MadeTo n z made (set r (i - 1) z) (i - 1)
-    unfolding MadeTo
-    made-back room h =
-        let j : suc (i - 1) ≡ i = omega arith in
-        let k : n - (i - 1) ≡ suc (n - i) = omega arith in
-        let rest : drop (suc (i - 1)) r ≡ replicate (n - i) z = rw j (inv .1) in (
-          take-set-le (i - 1) r (i - 1) z (omega arith) ∙ sym (take-take (i - 1) i r (omega arith)) ∙ ap (take (i - 1)) (inv .0) ∙ take-take (i - 1) i made (omega arith),
-          drop-cons (set r (i - 1) z) (i - 1) z (lt-length-set r (i - 1) z (omega arith))
-              ∙ rw (getD-set-same r (i - 1) z z (omega arith), drop-set-lt (suc (i - 1)) r (i - 1) z (omega arith), rest, k),
-        )
-
     pub made-step : (d : A) → i < n → i < length made → MadeTo n z made (set r i (getD made i d)) (i + 1)
     unfolding MadeTo
     made-step d h k = (

@@ -8,7 +8,7 @@ use mathlib.Core.Logic.{⊎-elim, _⊎_, inl, inr}
 use native.Mathlib.Numerals.{add-one}
 use native.Mathlib.Omega.{arith}
 use lib.Dec.{leb}
-use lib.ListN.{length, getD, set, take, drop, length-set, length-append, length-take, length-drop, take-append-drop, drop-of-length-le, List·getD-append}
+use lib.ListN.{length, getD, set, take, drop, length-set, length-append, length-take, length-drop, drop-of-length-le, List·getD-append}
 use lib.Seq.{drop-at, drop-length, take-all, take-nil, take-append-seam, take-length, length-take-le, drop-drop, take-take}
 use lib.Seq.{ext-getD, getD-take, getD-drop, getD-append-add, paste, paste-zero, paste-suc}
 use borrow.Author.Needs.{needs}
@@ -136,34 +136,6 @@ drop-take (suc a) (suc v) (c ∷ x) = let e : suc v - suc a ≡ v - a = omega ar
 pub part-part : (w a v b : ℕ) (l : List ℕ) → a + w ≤ v → take w (drop a (part v b l)) ≡ part w (b + a) l
 unfolding part
 part-part w a v b l h = rw (drop-take a v (drop b l), take-take w (v - a) (drop a (drop b l)) (omega arith), drop-drop a b l)
-
-module _ (l : List ℕ) (at w : ℕ) (vs : List ℕ) (fits : at + w ≤ length l) (short : length vs ≤ w) where
-  abbrev row : List ℕ
-  row = part w at l
-
-  row-is : putAt row 0 vs ≡ vs ++ drop (length vs) row
-  row-is =
-      let e : 0 + length vs ≡ length vs = omega arith in
-      put-inside row 0 vs (omega (arith, length-part w at l fits)) ∙ ap (λ (n : ℕ). vs ++ drop n row) e
-
-  pub length-row : length (putAt row 0 vs) ≡ w
-  length-row = length-put row 0 vs ∙ length-part w at l fits
-
-  after-row : drop (length vs) row ++ drop (at + w) l ≡ drop (at + length vs) l
-  unfolding part
-  after-row =
-      let e : at + w ≡ at + length vs + (w - length vs) = omega arith in
-      rw (drop-take (length vs) w (drop at l), drop-drop (length vs) at l, e, ← drop-drop (w - length vs) (at + length vs) l)
-      (take-append-drop (w - length vs) (drop (at + length vs) l))
-
-  pub put-row : putAt l at vs ≡ putAt l at (putAt row 0 vs)
-  put-row =
-      put-inside l at vs (omega arith)
-      ∙ ap (λ (r : List ℕ). take at l ++ vs ++ r) (sym after-row)
-      ∙ sym (append-assoc (take at l ++ vs) (drop (length vs) row) (drop (at + w) l))
-      ∙ ap (λ (r : List ℕ). r ++ drop (at + w) l) (append-assoc (take at l) vs (drop (length vs) row))
-      ∙ (λ i. take at l ++ sym row-is i ++ drop (at + sym length-row i) l)
-      ∙ sym (put-inside l at (putAt row 0 vs) (omega (arith, length-row)))
 
 -- The tests and the loop of the code.
 module _ (l : List ℕ) (at : ℕ) (vs : List ℕ) where

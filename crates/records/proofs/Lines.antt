@@ -1,6 +1,6 @@
 -- The written lines of a map, read where their words stand. Assumes nothing.
 use Prim.Native.Nat.{ℕ, zero, suc, _+_, _*_, _≤_, _<_, _%_, _^_}
-use mathlib.Core.Path.{_≡_, refl, sym, ap, ap₂, _∙_, subst}
+use mathlib.Core.Path.{_≡_, refl, sym, ap, ap₂, _∙_}
 use mathlib.Core.List.{List, [], _∷_, zipWith}
 use native.Mathlib.Nat.{suc-mul}
 use native.Mathlib.Omega.{arith}

@@ -22,7 +22,7 @@ use Rattle.records.specs.declared.IdMap.{IdMap}
 use Rattle.records.specs.declared.Namespace.{Namespace}
 use Rattle.records.specs.Records.{flagWord, processWidth, processOf, processFrom, freeProcess, mapWidth, mapAt, mapOf, denyAt, namespaceWidth, namespaceOf, namespaceFrom, freeNamespace, withMap, withDeny, startsIn, startsOf, noStarts, Cleared}
 use Rattle.records.proofs.Records.{flag-round, process-whole, namespace-whole}
-use Rattle.tables.specs.Tables.{State, processPlaces, namespacePlaces, processesAt, namespacesAt, tablesWidth, tablesOf, processAt, namespaceAt, startsBy, putProcess, putNamespace, putStarts, putMap, clearStarts}
+use Rattle.tables.specs.Tables.{State, processPlaces, namespacePlaces, processesAt, namespacesAt, tablesWidth, tablesOf, processAt, namespaceAt, startsBy, putProcess, putNamespace, putMap, clearStarts}
 
 pub length-processes : (l : List ℕ) → length (tablesOf l .processes) ≡ processPlaces
 unfolding tablesOf

@@ -16,8 +16,8 @@ use records::namespaces::NAMESPACE_WIDTH;
 use records::namespaces::free_namespace;
 use records::namespaces::lines_of;
 use records::namespaces::map_at;
-use records::namespaces::namespace_of;
 use records::namespaces::map_words;
+use records::namespaces::namespace_of;
 use records::namespaces::unmapped_words;
 use records::words::flag_word;
 
@@ -41,14 +41,7 @@ fn row_at(place: usize) -> usize
 }
 
 // Stores a namespace with both maps unwritten in a place of the table. A place past the end takes nothing.
-pub fn namespace_put(
-    t: &mut Tables,
-    place: usize,
-    parent: u64,
-    level: u64,
-    owner: u32,
-    deny: bool,
-)
+pub fn namespace_put(t: &mut Tables, place: usize, parent: u64, level: u64, owner: u32, deny: bool)
     ensures { λ r. ⌜ tablesOf (now (t .exit)) ≡ clearStarts (putNamespace (tablesOf (now (t .entry))) place (unmapped parent level owner deny)) place ⌝ }
 {
     if place < NAMESPACE_PLACES {

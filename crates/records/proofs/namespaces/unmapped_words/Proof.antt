@@ -12,4 +12,4 @@ unmapped-words-spec =
     (λ c. search records)  -- array-write-row-4
     (λ c κs. search records)  -- flag-word-requires
     (λ c. search records)  -- array-write-row-5
-    (λ c. search records))  -- returns
+    (λ c. (search records, search records)))  -- returns
