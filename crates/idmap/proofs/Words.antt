@@ -10,23 +10,29 @@ use Rattle.idmap.specs.declared.Line.{Line}
 use Rattle.idmap.specs.Line.{lineWords, countColumn, lineOf, lineAt, linesBy}
 use Rattle.idmap.specs.Lookup.{flip}
 
-module _ (from to : ℕ) (ws : List ℕ) (i : ℕ) where
-  -- the line at place i, and those after it
-  pub lines-step : from < lineWords → to < lineWords → lineWords ≤ length ws - i → linesBy from to (drop i ws) ≡ lineAt from to ws i ∷ linesBy from to (drop (i + lineWords) ws)
-  unfolding linesBy
-  lines-step f t h =
-      rw (drop-cons ws i 0 (omega arith), drop-cons ws (suc i) 0 (omega arith), drop-cons ws (suc (suc i)) 0 (omega arith), drop-cons ws (suc (suc (suc i))) 0 (omega arith))
-      (λ j. record { inside = word from f j % 2 ^ 32; parent = word to t j % 2 ^ 32; count = word countColumn (omega arith) j % 2 ^ 32 } ∷ linesBy from to (drop (past j) ws))
-    where
-      past : suc (suc (suc (suc i))) ≡ i + lineWords
-      past = omega arith
+-- four words from place i on
+abbrev pub fourAt : List ℕ → ℕ → List ℕ
+fourAt ws i = getD ws i 0 ∷ getD ws (suc i) 0 ∷ getD ws (suc (suc i)) 0 ∷ getD ws (suc (suc (suc i))) 0 ∷ []
 
-      word : (c : ℕ) → c < lineWords → getD (getD ws i 0 ∷ getD ws (suc i) 0 ∷ getD ws (suc (suc i)) 0 ∷ getD ws (suc (suc (suc i))) 0 ∷ []) c 0 ≡ getD ws (i + c) 0
+module _ (from to : ℕ) (ws : List ℕ) (i : ℕ) where
+  -- the line that they hold is the one at place i
+  pub line-is : from < lineWords → to < lineWords → lineOf from to (fourAt ws i) ≡ lineAt from to ws i
+  line-is f t = λ j. record { inside = word from f j % 2 ^ 32; parent = word to t j % 2 ^ 32; count = word countColumn (omega arith) j % 2 ^ 32 }
+    where
+      word : (c : ℕ) → c < lineWords → getD (fourAt ws i) c 0 ≡ getD ws (i + c) 0
       word zero h = ap (λ (k : ℕ). getD ws k 0) (omega arith)
       word (suc zero) h = ap (λ (k : ℕ). getD ws k 0) (omega arith)
       word (suc (suc zero)) h = ap (λ (k : ℕ). getD ws k 0) (omega arith)
       word (suc (suc (suc zero))) h = ap (λ (k : ℕ). getD ws k 0) (omega arith)
       word (suc (suc (suc (suc c)))) h = absurd (omega arith)
+
+  -- that line, and those after it
+  pub lines-step : from < lineWords → to < lineWords → lineWords ≤ length ws - i → linesBy from to (drop i ws) ≡ lineAt from to ws i ∷ linesBy from to (drop (i + lineWords) ws)
+  unfolding linesBy
+  lines-step f t h =
+      let past : suc (suc (suc (suc i))) ≡ i + lineWords = omega arith in
+      rw (drop-cons ws i 0 (omega arith), drop-cons ws (suc i) 0 (omega arith), drop-cons ws (suc (suc i)) 0 (omega arith), drop-cons ws (suc (suc (suc i))) 0 (omega arith))
+      (λ j. line-is f t j ∷ linesBy from to (drop (past j) ws))
 
   -- too few words are left for a line
   short : (l : List ℕ) → length l < lineWords → linesBy from to l ≡ []

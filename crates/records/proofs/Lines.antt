@@ -1,7 +1,7 @@
 -- The written lines of a map, read where their words stand. Assumes nothing.
 use Prim.Native.Nat.{ℕ, zero, suc, _+_, _*_, _≤_, _<_, _%_, _^_}
 use mathlib.Core.Path.{_≡_, refl, sym, ap, ap₂, _∙_}
-use mathlib.Core.List.{List, [], _∷_, zipWith}
+use mathlib.Core.List.{List, _∷_, _++_, zipWith}
 use native.Mathlib.Nat.{suc-mul}
 use native.Mathlib.Omega.{arith}
 use lib.ListN.{length, getD, take, drop}
@@ -15,6 +15,7 @@ use Rattle.prelude.proofs.Made.{tab-same, tab-next, tab-front, tab-whole}
 use Rattle.idmap.specs.declared.Line.{Line}
 use Rattle.idmap.specs.Line.{lineWords, insideColumn, parentColumn, countColumn, kernelColumn, lineAt, linesBy, linesIn, kernelLinesIn}
 use Rattle.idmap.specs.Good.{maxLines}
+use Rattle.idmap.proofs.Words.{fourAt, line-is}
 use Rattle.records.specs.Records.{firstLineAt, mapWidth, mapOf, mapFrom, linesOf, startsIn, startsFrom, onKernel, onKernels, LinesOf}
 use Rattle.records.proofs.Records.{map-whole, map-other, starts-whole}
 
@@ -25,13 +26,13 @@ module _ (from to : ℕ) (f : from < lineWords) (t : to < lineWords) (ws : List 
   lines-words zero k h = refl
   lines-words (suc n) k h =
       let m = suc-mul n lineWords in
-      let shorter : take (suc n * lineWords) (drop k ws) ≡ getD ws k 0 ∷ getD ws (suc k) 0 ∷ getD ws (suc (suc k)) 0 ∷ getD ws (suc (suc (suc k))) 0 ∷ take (n * lineWords) (drop (k + lineWords) ws) =
+      let shorter : take (suc n * lineWords) (drop k ws) ≡ fourAt ws k ++ take (n * lineWords) (drop (k + lineWords) ws) =
       ap (λ (c : ℕ). take c (drop k ws)) front
       ∙ rw (drop-cons ws k 0 (omega arith), drop-cons ws (suc k) 0 (omega arith), drop-cons ws (suc (suc k)) 0 (omega arith), drop-cons ws (suc (suc (suc k))) 0 (omega arith))
-      (ap (λ (c : ℕ). getD ws k 0 ∷ getD ws (suc k) 0 ∷ getD ws (suc (suc k)) 0 ∷ getD ws (suc (suc (suc k))) 0 ∷ take (n * lineWords) (drop c ws)) past) in
+      (ap (λ (c : ℕ). fourAt ws k ++ take (n * lineWords) (drop c ws)) past) in
       rw shorter
       (ap₂ (λ (x : Line) (xs : List Line). x ∷ xs)
-      (λ i. record { inside = word from f i % 2 ^ 32; parent = word to t i % 2 ^ 32; count = word countColumn (omega arith) i % 2 ^ 32 })
+      (line-is from to ws k f t ∙ ap (lineAt from to ws) (omega arith))
       (lines-words n (k + lineWords) (omega arith) ∙ tab-same (λ (j : ℕ). lineAt from to ws (k + lineWords + lineWords * j)) (λ (j : ℕ). lineAt from to ws (k + lineWords * suc j)) n 0 step ∙ tab-next (λ (j : ℕ). lineAt from to ws (k + lineWords * j)) n 0))
     where
       front : suc n * lineWords ≡ suc (suc (suc (suc (n * lineWords))))
@@ -42,13 +43,6 @@ module _ (from to : ℕ) (f : from < lineWords) (t : to < lineWords) (ws : List 
 
       step : (j : ℕ) → lineAt from to ws (k + lineWords + lineWords * j) ≡ lineAt from to ws (k + lineWords * suc j)
       step j = ap (lineAt from to ws) (omega arith)
-
-      word : (c : ℕ) → c < lineWords → getD (getD ws k 0 ∷ getD ws (suc k) 0 ∷ getD ws (suc (suc k)) 0 ∷ getD ws (suc (suc (suc k))) 0 ∷ []) c 0 ≡ getD ws (k + lineWords * 0 + c) 0
-      word zero h = ap (λ (i : ℕ). getD ws i 0) (omega arith)
-      word (suc zero) h = ap (λ (i : ℕ). getD ws i 0) (omega arith)
-      word (suc (suc zero)) h = ap (λ (i : ℕ). getD ws i 0) (omega arith)
-      word (suc (suc (suc zero))) h = ap (λ (i : ℕ). getD ws i 0) (omega arith)
-      word (suc (suc (suc (suc c)))) h = absurd (omega arith)
 
 -- ---- written_lines
 -- the places of a map's lines, from one column to another

@@ -133,6 +133,20 @@ pub map-within : (k : Kind) → mapAt k + mapWidth ≤ namespaceWidth
 map-within User = omega arith
 map-within Group = omega arith
 
+-- a row is read part by part
+namespace-by : (r r′ : List ℕ) {u g : IdMap} {d : Bool} → ((j : ℕ) → j < mapAt User → getD r j 0 ≡ getD r′ j 0) → mapOf (take mapWidth (drop (mapAt User) r)) ≡ u
+    → mapOf (take mapWidth (drop (mapAt Group) r)) ≡ g → eqb (getD r denyAt 0) 1 ≡ d
+    → namespaceOf r ≡ record { live = eqb (getD r′ 0 0) 1; parent = getD r′ 1 0; level = getD r′ 2 0; owner = getD r′ 3 0 % 2 ^ 32; users = u; groups = g; deny = d }
+namespace-by r r′ head eu eg ed = λ i. record {
+  live = eqb (head 0 (omega arith) i) 1;
+  parent = head 1 (omega arith) i;
+  level = head 2 (omega arith) i;
+  owner = head 3 (omega arith) i % 2 ^ 32;
+  users = eu i;
+  groups = eg i;
+  deny = ed i;
+}
+
 module _ (l : List ℕ) (a : ℕ) (fits : a + namespaceWidth ≤ length l) where
   word-at : (l : List ℕ) (j : ℕ) → j < namespaceWidth → getD (part namespaceWidth a l) j 0 ≡ getD l (a + j) 0
   unfolding part
@@ -169,43 +183,23 @@ module _ (l : List ℕ) (a : ℕ) (fits : a + namespaceWidth ≤ length l) where
     with-map : (k : Kind) → namespaceOf (part namespaceWidth a (putAt l (a + mapAt k) ws)) ≡ withMap k (namespaceOf (part namespaceWidth a l)) (mapOf ws)
     unfolding withMap
     with-map User =
-        λ i. record {
-          live = eqb (head-kept (mapAt User) ws (omega arith) 0 (omega arith) i) 1;
-          parent = head-kept (mapAt User) ws (omega arith) 1 (omega arith) i;
-          level = head-kept (mapAt User) ws (omega arith) 2 (omega arith) i;
-          owner = head-kept (mapAt User) ws (omega arith) 3 (omega arith) i % 2 ^ 32;
-          users = mapOf (map-there User i);
-          groups = mapOf (map-kept (mapAt User) ws Group (inl (omega arith)) i);
-          deny = eqb (word-kept (mapAt User) ws denyAt (omega arith) (inl (omega arith)) i) 1;
-        }
+        namespace-by (part namespaceWidth a (putAt l (a + mapAt User) ws)) (part namespaceWidth a l)
+        (head-kept (mapAt User) ws (omega arith)) (ap mapOf (map-there User)) (ap mapOf (map-kept (mapAt User) ws Group (inl (omega arith))))
+        (ap (λ (v : ℕ). eqb v 1) (word-kept (mapAt User) ws denyAt (omega arith) (inl (omega arith))))
     with-map Group =
-        λ i. record {
-          live = eqb (head-kept (mapAt Group) ws (omega arith) 0 (omega arith) i) 1;
-          parent = head-kept (mapAt Group) ws (omega arith) 1 (omega arith) i;
-          level = head-kept (mapAt Group) ws (omega arith) 2 (omega arith) i;
-          owner = head-kept (mapAt Group) ws (omega arith) 3 (omega arith) i % 2 ^ 32;
-          users = mapOf (map-kept (mapAt Group) ws User (inr (omega arith)) i);
-          groups = mapOf (map-there Group i);
-          deny = eqb (word-kept (mapAt Group) ws denyAt (omega arith) (inl (omega arith)) i) 1;
-        }
+        namespace-by (part namespaceWidth a (putAt l (a + mapAt Group) ws)) (part namespaceWidth a l)
+        (head-kept (mapAt Group) ws (omega arith)) (ap mapOf (map-kept (mapAt Group) ws User (inr (omega arith)))) (ap mapOf (map-there Group))
+        (ap (λ (v : ℕ). eqb v 1) (word-kept (mapAt Group) ws denyAt (omega arith) (inl (omega arith))))
 
   -- the word of the setting
-  module _ (v : ℕ) where
-    with-deny : namespaceOf (part namespaceWidth a (putAt l (a + denyAt) (v ∷ []))) ≡ withDeny (namespaceOf (part namespaceWidth a l)) (eqb v 1)
-    unfolding withDeny
-    with-deny =
-        let ws = v ∷ [] in
-        let z : a + denyAt + 0 ≡ a + denyAt = omega arith in
-        let there : getD (part namespaceWidth a (putAt l (a + denyAt) ws)) denyAt 0 ≡ v = word-at (putAt l (a + denyAt) ws) denyAt (omega arith) ∙ rw z at (put-word l (a + denyAt) ws (omega arith) 0 (omega arith)) in
-        λ i. record {
-          live = eqb (head-kept denyAt ws (omega arith) 0 (omega arith) i) 1;
-          parent = head-kept denyAt ws (omega arith) 1 (omega arith) i;
-          level = head-kept denyAt ws (omega arith) 2 (omega arith) i;
-          owner = head-kept denyAt ws (omega arith) 3 (omega arith) i % 2 ^ 32;
-          users = mapOf (map-kept denyAt ws User (inr (omega arith)) i);
-          groups = mapOf (map-kept denyAt ws Group (inr (omega arith)) i);
-          deny = eqb (there i) 1;
-        }
+  with-deny : (v : ℕ) → namespaceOf (part namespaceWidth a (putAt l (a + denyAt) (v ∷ []))) ≡ withDeny (namespaceOf (part namespaceWidth a l)) (eqb v 1)
+  unfolding withDeny
+  with-deny v =
+      let ws = v ∷ [] in
+      let z : a + denyAt + 0 ≡ a + denyAt = omega arith in
+      let there : getD (part namespaceWidth a (putAt l (a + denyAt) ws)) denyAt 0 ≡ v = word-at (putAt l (a + denyAt) ws) denyAt (omega arith) ∙ rw z at (put-word l (a + denyAt) ws (omega arith) 0 (omega arith)) in
+      namespace-by (part namespaceWidth a (putAt l (a + denyAt) ws)) (part namespaceWidth a l)
+      (head-kept denyAt ws (omega arith)) (ap mapOf (map-kept denyAt ws User (inr (omega arith)))) (ap mapOf (map-kept denyAt ws Group (inr (omega arith)))) (ap (λ (v : ℕ). eqb v 1) there)
 
 module _ (l l′ ws : List ℕ) (i k : ℕ) (long : length l ≡ tablesWidth) (h : i < namespacePlaces) (q : l′ ≡ putAt l k ws) (row : ℕ) (start : row ≡ namespacesAt + i * namespaceWidth) where
   abbrev namespaces : List Namespace
