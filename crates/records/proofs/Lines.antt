@@ -1,5 +1,5 @@
 -- The written lines of a map, read where their words stand. Assumes nothing.
-use Prim.Native.Nat.{ℕ, zero, suc, _+_, _*_, _≤_, _<_, _%_, _^_}
+use Prim.Native.Nat.{ℕ, zero, suc, _+_, _*_, _≤_, _<_}
 use mathlib.Core.Path.{_≡_, refl, sym, ap, ap₂, _∙_}
 use mathlib.Core.List.{List, _∷_, _++_, zipWith}
 use native.Mathlib.Nat.{suc-mul}
@@ -13,7 +13,7 @@ use Rattle.prelude.specs.Lists.{tab}
 use Rattle.prelude.proofs.Lists.{zip-take}
 use Rattle.prelude.proofs.Made.{tab-same, tab-next, tab-front, tab-whole}
 use Rattle.idmap.specs.declared.Line.{Line}
-use Rattle.idmap.specs.Line.{lineWords, insideColumn, parentColumn, countColumn, kernelColumn, lineAt, linesBy, linesIn, kernelLinesIn}
+use Rattle.idmap.specs.Line.{lineWords, insideColumn, parentColumn, kernelColumn, lineAt, linesBy, linesIn, kernelLinesIn}
 use Rattle.idmap.specs.Good.{maxLines}
 use Rattle.idmap.proofs.Words.{fourAt, line-is}
 use Rattle.records.specs.Records.{firstLineAt, mapWidth, mapOf, mapFrom, linesOf, startsIn, startsFrom, onKernel, onKernels, LinesOf}
