@@ -15,12 +15,8 @@ const DEEPEST: u64 = LAST_LEVEL + 1;
 const NONE: Kernel = Kernel::None;
 
 pub fn rows() -> Vec<Row> {
-    let mut rows = processes();
-    rows.extend(writes());
-    rows.extend(reads());
-    rows.extend(credentials());
-    rows.extend(questions());
-    rows
+    let parts = [processes(), writes(), reads(), credentials(), questions()];
+    parts.into_iter().flatten().collect()
 }
 
 /// What is made takes the last places, so that the tables are searched to their ends. Who joins owns no namespace, so

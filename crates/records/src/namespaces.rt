@@ -201,7 +201,7 @@ pub fn unmapped_words(parent: u64, level: u64, owner: u32, deny: bool) -> [u64; 
 }
 
 // A map that is not written.
-pub fn free_map() -> IdMap
+fn free_map() -> IdMap
     ensures { λ r. ⌜ r ≡ freeMap ⌝ }
 {
     IdMap {
