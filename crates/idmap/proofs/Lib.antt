@@ -9,7 +9,6 @@ pub mod Ranges
 pub mod Scans
 pub mod Fields
 pub mod FirstLine
-pub mod ReadOnce
 pub mod Texts
 pub mod Shows
 pub mod ReadBack

@@ -1,9 +1,9 @@
-// The text of a map that is to be written: lines of three decimal numbers. Each byte is read once, by `see`, which counts
-// it.
+// The text of a map that is to be written: lines of three decimal numbers.
 ghost use Rattle.std.specs.Prelude.{◌≡◌, ◌≤◌};
+ghost use Rattle.std.proofs.Math.Option.{none};
 ghost use Rattle.idmap.specs.Good.{no_id};
 ghost use Rattle.idmap.specs.Text.{is_blank, is_digit, map_lines, map_text};
-ghost use Rattle.idmap.specs.Scan.{see_of, seen_at, skipped, ended, no_number, number_at, field_at, no_line_at, line_end, scan_line, bad_text, text_read};
+ghost use Rattle.idmap.specs.Scan.{skipped, ended, number_at, field_at, line_end, scan_line};
 
 use super::overlap::good;
 use crate::{Line, MAX_LINES, NO_ID};
@@ -22,174 +22,98 @@ pub struct MapText {
     pub lines: [Line; MAX_LINES],
 }
 
-// What a text says, and how many bytes were read of it.
+// A number, and where it ends.
 #[derive(Drop)]
-pub struct TextRead {
-    pub map: MapText,
-    pub bytes: usize,
-}
-
-// A byte, where it stands, and how many bytes were read up to it. The text's end is seen as a newline.
-#[derive(Drop)]
-struct Seen {
-    byte: u64,
-    at: usize,
-    bytes: usize,
-}
-
-#[derive(Drop)]
-enum Number {
-    Value(u32),
+enum NumberRead {
+    Value(u32, usize),
     NoNumber,
 }
 
-// A number, and the first byte after it; where there is none, the byte that shows it.
+// A line, and how many bytes it takes.
 #[derive(Drop)]
-struct NumberRead {
-    number: Number,
-    after: Seen,
-}
-
-#[derive(Drop)]
-enum LineParsed {
-    Numbers(Line),
+enum LineRead {
+    Read(Line, usize),
     NoLine,
 }
 
-// A line, and how many bytes were read for it.
-#[derive(Drop)]
-struct LineRead {
-    parsed: LineParsed,
-    bytes: usize,
-}
-
-// Bytes that have a meaning. They are widened as they are read, so that a digit's value needs no further step.
-const NEWLINE: u64 = b'\n' as u64;
-
-const SPACE: u64 = b' ' as u64;
-
-const TAB: u64 = b'\t' as u64;
-
-const ZERO: u64 = b'0' as u64;
-
-const NINE: u64 = b'9' as u64;
-
-fn is_blank(c: u64) -> bool
+fn is_blank(c: u8) -> bool
     ensures { result ≡ is_blank c }
 {
-    c == SPACE || c == TAB
+    c == b' ' || c == b'\t'
 }
 
-fn is_digit(c: u64) -> bool
+fn is_digit(c: u8) -> bool
     ensures { result ≡ is_digit c }
 {
-    ZERO <= c && c <= NINE
+    b'0' <= c && c <= b'9'
 }
 
-// Reads the byte at `at`, after so many bytes, and counts it. Nothing else reads a text.
-fn see(s: &[u8], at: usize, bytes: usize) -> Seen
-    requires { bytes ≤ at }
-    ensures { result ≡ see_of s.now at bytes }
+// Where the blanks from `at` on end.
+fn skip(s: &[u8], at: usize) -> usize
+    ensures { result ≡ skipped s.now at }
 {
-    if at < s.len() {
-        Seen {
-            byte: s[at] as u64,
-            at: at,
-            bytes: bytes + 1,
+    let mut i = at;
+    while i < s.len() {
+        if !is_blank(s[i]) {
+            return i;
         }
-    } else {
-        Seen {
-            byte: NEWLINE,
-            at: at,
-            bytes: bytes,
-        }
+        i += 1;
     }
+    i
 }
 
-// The first byte from `from` on that is no blank.
-fn skip(s: &[u8], from: Seen) -> Seen
-    requires { from ≡ seen_at s.now from.at }
-    ensures { result ≡ seen_at s.now (skipped s.now from.at) }
-{
-    let mut c = from;
-    while is_blank(c.byte) {
-        c = see(s, c.at + 1, c.bytes);
-    }
-    c
-}
-
-fn no_number(c: Seen) -> NumberRead
-    ensures { result ≡ no_number c }
-{
-    let number = Number::NoNumber;
-    NumberRead {
-        number: number,
-        after: c,
-    }
-}
-
-// The number `v`, read from `at` up to `c`.
-fn made(at: usize, c: Seen, v: u64) -> NumberRead
+// The number `v`, read from `at` to `end`.
+fn made(at: usize, end: usize, v: u64) -> NumberRead
     requires { v ≤ no_id }
-    ensures { result ≡ ended at c v }
+    ensures { result ≡ ended at end v }
 {
-    if c.at == at {
-        return no_number(c);
-    }
-    let number = Number::Value(v as u32);
-    NumberRead {
-        number: number,
-        after: c,
+    if end == at {
+        NumberRead::NoNumber
+    } else {
+        NumberRead::Value(v as u32, end)
     }
 }
 
-// The number that starts with `first`.
-fn digits(s: &[u8], first: Seen) -> NumberRead
-    requires { first ≡ seen_at s.now first.at }
-    ensures { result ≡ number_at s.now first.at }
+// The number that starts at `at`.
+fn digits(s: &[u8], at: usize) -> NumberRead
+    ensures { result ≡ number_at s.now at }
 {
-    let mut c = first;
     let mut v: u64 = 0;
-    while is_digit(c.byte) {
-        v = v * 10 + (c.byte - ZERO);
-        if (NO_ID as u64) < v {
-            return no_number(c);
+    let mut i = at;
+    while i < s.len() {
+        let c = s[i];
+        if !is_digit(c) {
+            return made(at, i, v);
         }
-        c = see(s, c.at + 1, c.bytes);
+        v = v * 10 + (c - b'0') as u64;
+        if (NO_ID as u64) < v {
+            return NumberRead::NoNumber;
+        }
+        i += 1;
     }
-    made(first.at, c, v)
+    made(at, i, v)
 }
 
 // The number after any blanks.
-fn field(s: &[u8], from: Seen) -> NumberRead
-    requires { from ≡ seen_at s.now from.at }
-    ensures { result ≡ field_at s.now from.at }
+fn field(s: &[u8], at: usize) -> NumberRead
+    ensures { result ≡ field_at s.now at }
 {
-    digits(s, skip(s, from))
+    let p = skip(s, at);
+    digits(s, p)
 }
 
-fn no_line(c: Seen) -> LineRead
-    ensures { result ≡ no_line_at c }
+// The line `l`, if it ends at `e`.
+fn line_end(s: &[u8], e: usize, l: Line) -> LineRead
+    ensures { result ≡ line_end s.now e l }
 {
-    let parsed = LineParsed::NoLine;
-    LineRead {
-        parsed: parsed,
-        bytes: c.bytes,
-    }
-}
-
-// The line `l`, if it ends with `c`.
-fn line_end(c: Seen, l: Line) -> LineRead
-    ensures { result ≡ line_end c l }
-{
-    if c.byte == NEWLINE {
-        let parsed = LineParsed::Numbers(l);
-        LineRead {
-            parsed: parsed,
-            bytes: c.bytes,
+    if e < s.len() {
+        if s[e] == b'\n' {
+            LineRead::Read(l, e + 1)
+        } else {
+            LineRead::NoLine
         }
     } else {
-        no_line(c)
+        LineRead::Read(l, e)
     }
 }
 
@@ -197,26 +121,18 @@ fn line_end(c: Seen, l: Line) -> LineRead
 fn parse_line(s: &[u8]) -> LineRead
     ensures { result ≡ scan_line s.now }
 {
-    let first = field(s, see(s, 0, 0));
-    let p = first.after;
-    let number = first.number;
-    let Number::Value(a) = number else {
-        return no_line(p);
+    let NumberRead::Value(a, p) = field(s, 0) else {
+        return LineRead::NoLine;
     };
-    let second = field(s, p);
-    let q = second.after;
-    let number = second.number;
-    let Number::Value(b) = number else {
-        return no_line(q);
+    let NumberRead::Value(b, q) = field(s, p) else {
+        return LineRead::NoLine;
     };
-    let third = field(s, q);
-    let r = third.after;
-    let number = third.number;
-    let Number::Value(c) = number else {
-        return no_line(r);
+    let NumberRead::Value(c, e) = field(s, q) else {
+        return LineRead::NoLine;
     };
     line_end(
-        skip(s, r),
+        s,
+        skip(s, e),
         Line {
             inside: a,
             parent: b,
@@ -225,9 +141,8 @@ fn parse_line(s: &[u8]) -> LineRead
     )
 }
 
-// A text that is no map's, of which so many bytes were read.
-fn bad(bytes: usize) -> TextRead
-    ensures { result ≡ bad_text bytes }
+fn bad() -> MapText
+    ensures { result ≡ map_text none }
 {
     let parsed = Parsed::Bad;
     let lines = [Line {
@@ -235,20 +150,15 @@ fn bad(bytes: usize) -> TextRead
         parent: 0,
         count: 0,
     }; MAX_LINES];
-    let map = MapText {
+    MapText {
         parsed: parsed,
         lines: lines,
-    };
-    TextRead {
-        map: map,
-        bytes: bytes,
     }
 }
 
-// The lines that a text says, if it is the text of a good map, and how many bytes were read: all of a good text, and
-// never more than there are. Each line is read from what those before it left over.
-pub fn read_text(text: &[u8]) -> TextRead
-    ensures { result ≡ text_read text.now }
+// The lines that a text says, if it is the text of a good map.
+pub fn parse_map(text: &[u8]) -> MapText
+    ensures { result ≡ map_text (map_lines text.now) }
 {
     let mut lines = [Line {
         inside: 0,
@@ -256,41 +166,27 @@ pub fn read_text(text: &[u8]) -> TextRead
         count: 0,
     }; MAX_LINES];
     let mut n: usize = 0;
-    let mut bytes: usize = 0;
-    while bytes < text.len() {
+    let mut at: usize = 0;
+    while at < text.len() {
         if n == MAX_LINES {
-            return bad(bytes);
+            return bad();
         }
-        let read = parse_line(&text[bytes..]);
-        bytes += read.bytes;
-        let parsed = read.parsed;
-        let LineParsed::Numbers(l) = parsed else {
-            return bad(bytes);
+        let LineRead::Read(l, used) = parse_line(&text[at..]) else {
+            return bad();
         };
         lines[n] = l;
         n += 1;
+        at += used;
     }
     if n == 0 {
-        return bad(bytes);
+        return bad();
     }
     if good(lines, n) {
-        let map = MapText {
+        MapText {
             parsed: Parsed::Lines(n),
             lines: lines,
-        };
-        TextRead {
-            map: map,
-            bytes: bytes,
         }
     } else {
-        bad(bytes)
+        bad()
     }
-}
-
-// The lines alone.
-pub fn parse_map(text: &[u8]) -> MapText
-    ensures { result ≡ map_text (map_lines text.now) }
-{
-    let read = read_text(text);
-    read.map
 }

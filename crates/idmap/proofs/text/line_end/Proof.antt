@@ -6,6 +6,8 @@ use Rattle.idmap.proofs.text.line_end.Tie as tie
 pub line_end_spec : {M : Type 1} → statement M
 line_end_spec =
     tie.close (tie.spec
-    (λ c κs. search scans)  -- no-line-requires
+    (λ c. search scans)  -- shared-slice-read-if2
+    (λ c. search scans)  -- add-t11
     (λ c. search scans)  -- returns
-    (λ c. search scans))  -- returns-2
+    (λ c. search scans)  -- returns-2
+    (λ c. search scans))  -- returns-3

@@ -6,7 +6,6 @@ use Rattle.idmap.proofs.text.made.Tie as tie
 pub made_spec : {M : Type 1} → statement M
 made_spec =
     tie.close (tie.spec
-    (λ c κs. search scans)  -- no-number-requires
+    (λ c. search scans)  -- cast-t6
     (λ c. search scans)  -- returns
-    (λ c. search scans)  -- cast-number
     (λ c. search scans))  -- returns-2
