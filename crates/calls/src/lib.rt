@@ -1,4 +1,6 @@
 // Every call of document 01 through one entry point, so that a list of calls is a loop over one function.
+#![tactic(auto)]
+
 ghost use Rattle.tables.specs.Tables.{tables_of};
 ghost use Rattle.std.specs.Prelude.{◌≡◌};
 ghost use Rattle.hierarchy.specs.KernelStarts.{quick};
@@ -11,7 +13,7 @@ use tables::Tables;
 use tables::answer::Answer;
 
 // A call, as numbers; the text, the list and the buffer that some of them take are lent beside it.
-#[derive(Drop)]
+#[derive(Clone, Copy)]
 pub enum Call {
     Fork(u64),
     Clone(u64),
@@ -30,14 +32,14 @@ pub enum Call {
 }
 
 // An answer, or that the caller's own IDs are told.
-#[derive(Drop)]
+#[derive(Clone, Copy)]
 pub enum CallAnswer {
     Plain(Answer),
     Own,
 }
 
 // What a call answers, and the own IDs beside it; where none are told they are 0.
-#[derive(Drop)]
+#[derive(Clone, Copy)]
 pub struct Response {
     pub answer: CallAnswer,
     pub ids: OwnIds,

@@ -1,4 +1,6 @@
 // Sets of capabilities: which capabilities a process has, kept as the bits of one word.
+#![tactic(auto)]
+
 ghost use Rattle.std.specs.Prelude.{◌≡◌};
 ghost use Rattle.capability.specs.Sets.{holds, is_within, lowered_to};
 
@@ -14,7 +16,7 @@ pub const CAP_LAST_CAP: u32 = 36;
 // A set is a word of 64 bits.
 const WORD_BITS: u32 = 64;
 
-#[derive(Drop)]
+#[derive(Clone, Copy)]
 pub struct CapabilitySet {
     pub bits: u64,
 }

@@ -1,4 +1,6 @@
 // Reads calls from standard input, a line for each, and writes an answer line for each: docs/console.md has the form.
+#![tactic(auto)]
+
 use script::lines::{MAX_LINE, MAX_LIST, lengthen};
 use script::output;
 use tables::{TABLES_WIDTH, Tables};
@@ -11,7 +13,7 @@ use crate::lines::answer_line;
 const OUT_ROOM: usize = 65536;
 
 // How many bytes of a line are gathered, and how much of the output buffer is in use.
-#[derive(Drop)]
+#[derive(Clone, Copy)]
 struct Progress {
     have: usize,
     at: usize,
@@ -64,7 +66,7 @@ fn take(
 }
 
 // What a read brings: how much of a last line there is then, or the input's end.
-#[derive(Drop)]
+#[derive(Clone, Copy)]
 enum Brought {
     Have(usize),
     End,

@@ -19,7 +19,7 @@ use tables::namespaces::namespace_at;
 use tables::processes::{process_at, process_put};
 
 // Whether every group of a list is mapped, and the list as kernel IDs beside it.
-#[derive(Drop)]
+#[derive(Clone, Copy)]
 struct Listed {
     mapped: bool,
     groups: GroupList,

@@ -15,7 +15,7 @@ use tables::find::{Found, find_caller};
 use tables::processes::process_at;
 
 // A process's own IDs, as seen in its namespace.
-#[derive(Drop)]
+#[derive(Clone, Copy)]
 pub struct OwnIds {
     pub users: Ids,
     pub groups: Ids,
@@ -23,14 +23,14 @@ pub struct OwnIds {
 }
 
 // Whether they are told.
-#[derive(Drop)]
+#[derive(Clone, Copy)]
 pub enum OwnAnswer {
     Told,
     NotTold(Errno),
 }
 
 // The answer, and the IDs beside it; where they are not told they are 0.
-#[derive(Drop)]
+#[derive(Clone, Copy)]
 pub struct OwnResult {
     pub answer: OwnAnswer,
     pub ids: OwnIds,

@@ -13,7 +13,7 @@ use tables::answer::{Answer, Errno};
 use tables::find::{Found, find_caller, named_namespace};
 
 // Out: from a namespace's ID to its kernel ID. Back: from a kernel ID to the namespace's.
-#[derive(Drop)]
+#[derive(Clone, Copy)]
 pub enum Way {
     Out,
     Back,

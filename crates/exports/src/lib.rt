@@ -1,6 +1,8 @@
 // Every call, and the journal of calls, for programs in other languages: bindings/c/oarhatchet.h has the C names and
 // types. Tables cross as one pointer to the lent array, texts, lists and buffers as pointer and length, answers as
 // numbers.
+#![tactic(auto)]
+
 ghost use Rattle.std.specs.Prelude.{◌≤◌, ◌≡◌, length};
 ghost use Rattle.prelude.specs.Parts.{put_at};
 ghost use Rattle.records.specs.declared.Kind.TheVariants.{User, Group};

@@ -1,5 +1,7 @@
 // ID maps: their lines, the lookups through them, the tests of a map that is to be written, and the text of a map.
 // User and group maps use the same code. Nothing here knows a table, a process or a namespace.
+#![tactic(auto)]
+
 pub mod lookup;
 pub mod overlap;
 pub mod range;
@@ -34,7 +36,7 @@ pub const NO_ID: u32 = 4294967295;
 pub const OVERFLOW_ID: u32 = 65534;
 
 // A line of a map: `count` IDs from `inside` on stand for those from `parent` on in the parent namespace.
-#[derive(Drop)]
+#[derive(Clone, Copy)]
 pub struct Line {
     pub inside: u32,
     pub parent: u32,
@@ -49,7 +51,7 @@ pub const NO_LINE: Line = Line {
 };
 
 // What an ID becomes.
-#[derive(Drop)]
+#[derive(Clone, Copy)]
 pub enum Translated {
     Id(u32),
     Unmapped,
@@ -57,7 +59,7 @@ pub enum Translated {
 
 // What a lookup answers: what the ID becomes, and how many IDs, from this one to the end of its line, translate by the
 // same offset. Where the ID is unmapped there are none.
-#[derive(Drop)]
+#[derive(Clone, Copy)]
 pub struct LookedUp {
     pub translated: Translated,
     pub reach: u32,

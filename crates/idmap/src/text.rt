@@ -9,28 +9,28 @@ use super::overlap::good;
 use crate::{Line, MAX_LINES, NO_ID};
 
 // How many lines a map's text has, or that it is no map's text.
-#[derive(Drop)]
+#[derive(Clone, Copy)]
 pub enum Parsed {
     Lines(usize),
     Bad,
 }
 
 // The answer, and the lines beside it; those past the number answered are empty.
-#[derive(Drop)]
+#[derive(Clone, Copy)]
 pub struct MapText {
     pub parsed: Parsed,
     pub lines: [Line; MAX_LINES],
 }
 
 // A number, and where it ends.
-#[derive(Drop)]
+#[derive(Clone, Copy)]
 enum NumberRead {
     Value(u32, usize),
     NoNumber,
 }
 
 // A line, and how many bytes it takes.
-#[derive(Drop)]
+#[derive(Clone, Copy)]
 enum LineRead {
     Read(Line, usize),
     NoLine,

@@ -90,7 +90,7 @@ pub fn byte_of(c: Call) -> u8
 }
 
 // The call of a call byte, with all its numbers 0, if there is one.
-#[derive(Drop)]
+#[derive(Clone, Copy)]
 pub enum Template {
     Of(Call),
     Unknown,
@@ -126,7 +126,7 @@ pub fn template_of(byte: u8) -> Template
 
 // What is lent beside a call: nothing, a text or a list, which run to the record's end, or a buffer, whose length is
 // the record's last number.
-#[derive(Drop)]
+#[derive(Clone, Copy)]
 pub enum Lent {
     Nothing,
     Text,
@@ -135,7 +135,7 @@ pub enum Lent {
 }
 
 // What a record has after its call byte: names of eight bytes each, other numbers of four, and what is lent.
-#[derive(Drop)]
+#[derive(Clone, Copy)]
 pub struct Form {
     pub names: usize,
     pub numbers: usize,

@@ -1,4 +1,6 @@
 // Calls as bytes, both ways: docs/journal.md has the format.
+#![tactic(auto)]
+
 pub mod layout;
 mod numbers;
 pub mod read;

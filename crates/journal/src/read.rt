@@ -12,7 +12,7 @@ use calls::Call;
 use records::Ids;
 
 // Why the reading of a journal stops.
-#[derive(Drop)]
+#[derive(Clone, Copy)]
 pub enum Stop {
     // The journal is empty or begins with another byte than the version's.
     Version,
@@ -28,7 +28,7 @@ pub enum Stop {
 
 // A call, where its text or its list starts, how many bytes the one and IDs the other has, how long its buffer is, and
 // where the next record starts.
-#[derive(Drop)]
+#[derive(Clone, Copy)]
 pub struct Record {
     pub call: Call,
     pub tail: usize,
@@ -39,7 +39,7 @@ pub struct Record {
 }
 
 // What stands at an offset: a record, the journal's end, or a stop with the offset where the bad record starts.
-#[derive(Drop)]
+#[derive(Clone, Copy)]
 pub enum Read {
     Found(Record),
     End,

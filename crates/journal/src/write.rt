@@ -13,7 +13,7 @@ use idmap::TWO_TO_32;
 use tables::answer::Errno;
 
 // The bytes of the record that was written, or why none was.
-#[derive(Drop)]
+#[derive(Clone, Copy)]
 pub enum Written {
     Length(usize),
     Refused(Errno),

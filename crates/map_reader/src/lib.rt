@@ -1,4 +1,6 @@
 // The reader of a map's text by itself, as a function of a static library: the bench times it beside a parser in Rust.
+#![tactic(auto)]
+
 ghost use Rattle.std.specs.Prelude.{◌≡◌};
 ghost use Rattle.idmap.specs.Scan.{text_read};
 ghost use Rattle.map_reader.specs.Reader.{lines_of};

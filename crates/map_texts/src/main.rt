@@ -1,5 +1,7 @@
 // Runs texts of maps through the reader and writes what each gives: the text in quotes, and then its lines as a read of
 // the map shows them, or that it is no map's text.
+#![tactic(auto)]
+
 use idmap::text::Parsed;
 use idmap::{Line, MAX_LINES};
 use libc::STDOUT_FILENO;

@@ -15,7 +15,7 @@ use tables::namespaces::{deny_put, namespace_at};
 use tables::processes::process_at;
 
 // What a text sets.
-#[derive(Drop)]
+#[derive(Clone, Copy)]
 enum Setting {
     Deny,
     Allow,

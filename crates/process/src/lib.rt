@@ -1,4 +1,6 @@
 // Fork, clone, unshare and setns.
+#![tactic(auto)]
+
 ghost use Rattle.std.specs.Prelude.{◌≡◌, ◌<◌};
 ghost use Rattle.tables.specs.Tables.{max_level, tables_of};
 ghost use Rattle.tables.specs.Reply.{Promise};
@@ -88,7 +90,7 @@ fn member(p: Process, namespace: u64) -> Process
 }
 
 // A refusal; or the place of the process that makes a namespace, and the free place for this with its number.
-#[derive(Drop)]
+#[derive(Clone, Copy)]
 enum Making {
     Barred(Errno),
     By(usize, usize, u64),

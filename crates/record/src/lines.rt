@@ -6,7 +6,7 @@ use script::lines::{Beside, Line, MAX_LIST};
 use tables::answer::Errno;
 
 // Why a line has no record.
-#[derive(Drop)]
+#[derive(Clone, Copy)]
 pub enum Stop {
     Malformed,
     Fresh,
@@ -14,7 +14,7 @@ pub enum Stop {
 }
 
 // How many bytes a line's record has, which are none of a blank line and of a comment; or why it has no record.
-#[derive(Drop)]
+#[derive(Clone, Copy)]
 pub enum Recorded {
     Length(usize),
     Stopped(Stop),

@@ -1,5 +1,7 @@
 // Turns a script on standard input into a journal on standard output: docs/console.md and docs/journal.md have the
 // forms. A line that has no record ends the journal, and standard error says which line it is and why.
+#![tactic(auto)]
+
 use crate::lines::{Recorded, Stop};
 use journal::{MAX_RECORD, VERSION};
 use script::lines::{MAX_LINE, MAX_LIST, lengthen};
@@ -19,7 +21,7 @@ const MOST_TURNS: u64 = 18446744073709551615;
 
 // How many bytes of a line are gathered, how much of the output buffer is in use, the line's number, and whether there
 // is more to do.
-#[derive(Drop)]
+#[derive(Clone, Copy)]
 struct Progress {
     have: usize,
     at: usize,

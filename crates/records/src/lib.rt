@@ -1,5 +1,7 @@
 // The records of the tables, processes and namespaces, and the rows of words that hold them: a row is read into a
 // record, and a record is laid out as words that are read as it.
+#![tactic(auto)]
+
 pub mod kinds;
 pub mod namespaces;
 pub mod processes;
@@ -12,14 +14,14 @@ use idmap::{Line, MAX_LINES};
 pub const MAX_GROUPS: usize = 16;
 
 // Which IDs a map or a call is about.
-#[derive(Drop)]
+#[derive(Clone, Copy)]
 pub enum Kind {
     User,
     Group,
 }
 
 // The IDs of one kind that a process has, all kernel IDs.
-#[derive(Drop)]
+#[derive(Clone, Copy)]
 pub struct Ids {
     pub real: u32,
     pub effective: u32,
@@ -27,7 +29,7 @@ pub struct Ids {
 }
 
 // The supplementary groups of a process, kernel IDs: the first `count` of `ids`.
-#[derive(Drop)]
+#[derive(Clone, Copy)]
 pub struct GroupList {
     pub count: u64,
     pub ids: [u32; MAX_GROUPS],
@@ -45,7 +47,7 @@ pub const NO_GROUPS: GroupList = GroupList {
     ids: [0; MAX_GROUPS],
 };
 
-#[derive(Drop)]
+#[derive(Clone, Copy)]
 pub struct Process {
     pub live: bool,
     pub namespace: u64,
@@ -57,19 +59,19 @@ pub struct Process {
 }
 
 // Whether a map is written, and with how many lines.
-#[derive(Drop)]
+#[derive(Clone, Copy)]
 pub enum MapState {
     Unwritten,
     Written(usize),
 }
 
-#[derive(Drop)]
+#[derive(Clone, Copy)]
 pub struct IdMap {
     pub state: MapState,
     pub lines: [Line; MAX_LINES],
 }
 
-#[derive(Drop)]
+#[derive(Clone, Copy)]
 pub struct Namespace {
     pub live: bool,
     pub parent: u64,

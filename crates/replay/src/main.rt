@@ -1,4 +1,6 @@
 // Makes the calls of a journal on standard input and prints each answer: docs/journal.md has both forms.
+#![tactic(auto)]
+
 use crate::window::{Place, WINDOW_ROOM};
 use journal::MAX_IDS;
 use journal::read::{Read, Stop};
@@ -28,7 +30,7 @@ fn wants_more(read: Read) -> bool {
 }
 
 // What comes after a read of the input: another one, or nothing.
-#[derive(Drop)]
+#[derive(Clone, Copy)]
 enum Turn {
     On(Place),
     Done,

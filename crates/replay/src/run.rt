@@ -18,7 +18,7 @@ fn make(
 }
 
 // Where no whole record is left, and what is found there.
-#[derive(Drop)]
+#[derive(Clone, Copy)]
 pub struct Left {
     pub at: usize,
     pub read: Read,

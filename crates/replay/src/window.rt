@@ -8,7 +8,7 @@ pub const WINDOW_ROOM: usize = 1 + 2 * MAX_RECORD;
 
 // Where the next record stands in the window, how many bytes the window has, how many bytes of the journal are dropped
 // from it, and whether the input has ended.
-#[derive(Drop)]
+#[derive(Clone, Copy)]
 pub struct Place {
     pub at: usize,
     pub filled: usize,

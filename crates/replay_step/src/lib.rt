@@ -1,4 +1,6 @@
 // Makes the call of one record of a journal, so that a loop over it makes all of them.
+#![tactic(auto)]
+
 ghost use Rattle.std.specs.Prelude.{◌≡◌, ◌+◌, ◌≤◌, min, length};
 ghost use Rattle.tables.specs.Tables.{tables_of};
 ghost use Rattle.tables.specs.declared.answer.Answer.TheVariants.{Done};
@@ -19,7 +21,7 @@ use tables::answer::Answer;
 pub const MAX_READ: usize = MAX_LINES * LINE_BYTES;
 
 // What stands at an offset, and what the call that stands there was answered; "done" where there is none.
-#[derive(Drop)]
+#[derive(Clone, Copy)]
 pub struct Replayed {
     pub read: Read,
     pub response: Response,

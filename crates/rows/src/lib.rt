@@ -1,5 +1,7 @@
 // Rows of a lent array of words: the one store of a row, for every table, and the part of the array that a row is read
 // from.
+#![tactic(auto)]
+
 ghost use Rattle.std.specs.Prelude.{◌≡◌, ◌+◌, ◌≤◌, length};
 ghost use Rattle.prelude.specs.Parts.{part, put_at};
 

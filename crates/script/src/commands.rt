@@ -5,7 +5,7 @@ use calls::Call;
 use credentials::translate::Way;
 use records::{Ids, Kind};
 
-#[derive(Drop)]
+#[derive(Clone, Copy)]
 pub enum Command {
     Fork,
     Clone,
@@ -121,7 +121,7 @@ pub fn command_of(word: &[u8]) -> Command {
 }
 
 // The arguments of a line: how many numbers, and where the first byte of a text after them stands; or something else.
-#[derive(Drop)]
+#[derive(Clone, Copy)]
 pub enum Arguments {
     Numbers(usize),
     WithText(usize, usize),
@@ -157,7 +157,7 @@ pub fn read_arguments(line: &[u8], from: usize, values: &mut [u64; 4]) -> Argume
 }
 
 // The call that a word and its numbers make, if they make one.
-#[derive(Drop)]
+#[derive(Clone, Copy)]
 pub enum Made {
     Call(Call),
     Nothing,

@@ -18,7 +18,7 @@ pub const MAX_LIST: usize = 1000;
 pub const MAX_BUFFER: u64 = 65536;
 
 // What a call is lent: the lengths of its text, of its list and of its buffer.
-#[derive(Drop)]
+#[derive(Clone, Copy)]
 pub struct Beside {
     pub text: usize,
     pub ids: usize,
@@ -32,7 +32,7 @@ const NOTHING: Beside = Beside {
 };
 
 // What a line is: nothing to do, a fresh start, a call with what is lent beside it, or none of these.
-#[derive(Drop)]
+#[derive(Clone, Copy)]
 pub enum Line {
     Blank,
     Fresh,
@@ -127,7 +127,7 @@ fn call_line(command: Command, line: &[u8], from: usize, text: &mut [u8]) -> Lin
 }
 
 // How many IDs stand on a line; or something else stands there, or too many.
-#[derive(Drop)]
+#[derive(Clone, Copy)]
 enum List {
     Count(usize),
     Bad,

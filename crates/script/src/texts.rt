@@ -2,14 +2,14 @@
 use crate::tokens;
 
 // What a text comes to: its length in the lent buffer, or no text.
-#[derive(Drop)]
+#[derive(Clone, Copy)]
 pub enum Text {
     Length(usize),
     Bad,
 }
 
 // One byte of a text and where the next one stands, the text's end, or no text.
-#[derive(Drop)]
+#[derive(Clone, Copy)]
 enum Byte {
     At(u8, usize),
     End,

@@ -35,7 +35,7 @@ fn word_end(line: &[u8], from: usize) -> usize
 }
 
 // Where a word stands: from `start` on, up to `end`. At the line's end both are its length.
-#[derive(Drop)]
+#[derive(Clone, Copy)]
 pub struct Word {
     pub start: usize,
     pub end: usize,
@@ -67,7 +67,7 @@ pub fn equals(a: &[u8], b: &[u8]) -> bool {
     true
 }
 
-#[derive(Drop)]
+#[derive(Clone, Copy)]
 pub enum Number {
     Value(u64),
     Bad,
@@ -137,7 +137,7 @@ fn read_number(token: &[u8]) -> Number {
 
 // What stands next on a line: a number and where it ends, a text and where its first byte stands, something that is
 // neither, or nothing.
-#[derive(Drop)]
+#[derive(Clone, Copy)]
 pub enum Next {
     Number(u64, usize),
     Text(usize),

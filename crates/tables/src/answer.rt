@@ -1,6 +1,6 @@
 // What a call answers: document 01's answers but a process's own IDs, which have a type of their own, and its refusals
 // under Linux' names.
-#[derive(Drop)]
+#[derive(Clone, Copy)]
 pub enum Errno {
     EPERM,
     ESRCH,
@@ -11,7 +11,7 @@ pub enum Errno {
     EUSERS,
 }
 
-#[derive(Drop)]
+#[derive(Clone, Copy)]
 pub enum Answer {
     Refused(Errno),
     Done,

@@ -9,14 +9,14 @@ use crate::processes::process_at;
 use crate::{NAMESPACE_PLACES, PROCESS_PLACES, Tables};
 
 // A place of a table, or that there is none.
-#[derive(Drop)]
+#[derive(Clone, Copy)]
 pub enum Found {
     At(usize),
     Nothing,
 }
 
 // A free place of a table with the number of what is put there, or that there is none.
-#[derive(Drop)]
+#[derive(Clone, Copy)]
 pub enum Free {
     Place(usize, u64),
     Full,

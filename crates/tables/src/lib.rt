@@ -1,5 +1,7 @@
 // The tables of processes and namespaces, in one array of words that the caller lends: loads and stores of records, the
 // initial tables, and who is where. Nothing above this crate knows the layout.
+#![tactic(auto)]
+
 pub mod answer;
 pub mod find;
 pub mod initial;

@@ -8,10 +8,10 @@ use Rattle.prelude.proofs.Parts.{stores}
 use Rattle.rows.proofs.store.Statement.{statement}
 use Rattle.rows.proofs.store.Tie as tie
 
-abbrev invariant-loop : tie.invariant-loop
+abbrev invariant-loop : tie.invariant-loop-i
 invariant-loop t₀ at row i₀ i-end t i = (i ≤ length row) × (i-end ≡ length row) × (length t ≡ length t₀) × (t ≡ paste t₀ at row i)
 
-abbrev decreases-loop : tie.decreases-loop
+abbrev decreases-loop : tie.decreases-loop-i
 decreases-loop t₀ at row i₀ i-end t i = length row - i
 
 pub store_spec : {M : Type 1} → statement M

@@ -5,10 +5,10 @@ use Rattle.idmap.proofs.Lookups.{lookup_from, lookups}
 use Rattle.idmap.proofs.lookup.lookup.Statement.{statement}
 use Rattle.idmap.proofs.lookup.lookup.Tie as tie
 
-abbrev invariant-loop : tie.invariant-loop
+abbrev invariant-loop : tie.invariant-loop-i
 invariant-loop words id from to i₀ i = (i ≤ length words) × (from < line_words) × (to < line_words) × (lookup_from from to words 0 id ≡ lookup_from from to words i id)
 
-abbrev decreases-loop : tie.decreases-loop
+abbrev decreases-loop : tie.decreases-loop-i
 decreases-loop words id from to i₀ i = length words - i
 
 pub lookup_spec : {M : Type 1} → statement M

@@ -5,10 +5,10 @@ use Rattle.idmap.proofs.Overlaps.{overlaps}
 use Rattle.idmap.proofs.overlap.clear.Statement.{statement}
 use Rattle.idmap.proofs.overlap.clear.Tie as tie
 
-abbrev invariant-loop : tie.invariant-loop
+abbrev invariant-loop : tie.invariant-loop-j
 invariant-loop l n from lines j₀ j = all_apart l (drop from (take n lines)) ≡ all_apart l (drop j (take n lines))
 
-abbrev decreases-loop : tie.decreases-loop
+abbrev decreases-loop : tie.decreases-loop-j
 decreases-loop l n from lines j₀ j = max_lines - j
 
 pub clear_spec : {M : Type 1} → statement M

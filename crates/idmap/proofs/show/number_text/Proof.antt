@@ -4,10 +4,10 @@ use Rattle.idmap.proofs.Shows.{Filled, shows}
 use Rattle.idmap.proofs.show.number_text.Statement.{statement}
 use Rattle.idmap.proofs.show.number_text.Tie as tie
 
-abbrev invariant-loop : tie.invariant-loop
+abbrev invariant-loop : tie.invariant-loop-k
 invariant-loop n text₀ v₀ k₀ text v k = (k ≤ 9) × (length text ≡ 10) × Filled n text v k
 
-abbrev decreases-loop : tie.decreases-loop
+abbrev decreases-loop : tie.decreases-loop-k
 decreases-loop n text₀ v₀ k₀ text v k = k
 
 pub number_text_spec : {M : Type 1} → statement M

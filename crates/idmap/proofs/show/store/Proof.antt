@@ -5,11 +5,11 @@ use Rattle.prelude.proofs.Parts.{stores}
 use Rattle.idmap.proofs.show.store.Statement.{statement}
 use Rattle.idmap.proofs.show.store.Tie as tie
 
-abbrev invariant-loop : tie.invariant-loop
+abbrev invariant-loop : tie.invariant-loop-i
 invariant-loop buffer₀ at text i₀ i-end buffer i =
     (i ≤ length text) × (i-end ≡ length text) × (length buffer ≡ length buffer₀) × (buffer ≡ paste buffer₀ at text i)
 
-abbrev decreases-loop : tie.decreases-loop
+abbrev decreases-loop : tie.decreases-loop-i
 decreases-loop buffer₀ at text i₀ i-end buffer i = length text - i
 
 pub store_spec : {M : Type 1} → statement M

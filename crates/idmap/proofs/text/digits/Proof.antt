@@ -6,10 +6,10 @@ use Rattle.idmap.proofs.Scans.{number_from, scans}
 use Rattle.idmap.proofs.text.digits.Statement.{statement}
 use Rattle.idmap.proofs.text.digits.Tie as tie
 
-abbrev invariant-loop : tie.invariant-loop
+abbrev invariant-loop : tie.invariant-loop-i
 invariant-loop s at v₀ i₀ v i = (v ≤ no_id) × (number_at s at ≡ number_from s at v i)
 
-abbrev decreases-loop : tie.decreases-loop
+abbrev decreases-loop : tie.decreases-loop-i
 decreases-loop s at v₀ i₀ v i = length s - i
 
 pub digits_spec : {M : Type 1} → statement M

@@ -5,10 +5,10 @@ use Rattle.idmap.proofs.Scans.{scans}
 use Rattle.idmap.proofs.text.skip.Statement.{statement}
 use Rattle.idmap.proofs.text.skip.Tie as tie
 
-abbrev invariant-loop : tie.invariant-loop
+abbrev invariant-loop : tie.invariant-loop-i
 invariant-loop s at i₀ i = skipped s at ≡ skipped s i
 
-abbrev decreases-loop : tie.decreases-loop
+abbrev decreases-loop : tie.decreases-loop-i
 decreases-loop s at i₀ i = length s - i
 
 pub skip_spec : {M : Type 1} → statement M
