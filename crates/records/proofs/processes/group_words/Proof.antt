@@ -7,10 +7,10 @@ use Rattle.records.proofs.Records.{records}
 use Rattle.records.proofs.processes.group_words.Statement.{statement}
 use Rattle.records.proofs.processes.group_words.Tie as tie
 
-abbrev invariant-loop : tie.invariant-loop
+abbrev invariant-loop : tie.invariant-loop-i
 invariant-loop ids words₀ i₀ words i = (i ≤ max_groups) × (length words ≡ max_groups) × (length ids ≡ max_groups) × (take i words ≡ take i ids)
 
-abbrev decreases-loop : tie.decreases-loop
+abbrev decreases-loop : tie.decreases-loop-i
 decreases-loop ids words₀ i₀ words i = max_groups - i
 
 pub group_words_spec : {M : Type 1} → statement M
