@@ -7,10 +7,10 @@ use Rattle.tables.proofs.Finding.{namespaces_from, finding}
 use Rattle.tables.proofs.find.free_namespace_place.Statement.{statement}
 use Rattle.tables.proofs.find.free_namespace_place.Tie as tie
 
-abbrev invariant-loop : tie.invariant-loop
+abbrev invariant-loop : tie.invariant-loop-i
 invariant-loop t i₀ i = free_namespace_place (tables_of t) ≡ namespaces_from (tables_of t) i
 
-abbrev decreases-loop : tie.decreases-loop
+abbrev decreases-loop : tie.decreases-loop-i
 decreases-loop t i₀ i = namespace_places - i
 
 pub free_namespace_place_spec : {M : Type 1} → statement M

@@ -7,10 +7,10 @@ use Rattle.tables.proofs.Finding.{processes_from, finding}
 use Rattle.tables.proofs.find.free_process_place.Statement.{statement}
 use Rattle.tables.proofs.find.free_process_place.Tie as tie
 
-abbrev invariant-loop : tie.invariant-loop
+abbrev invariant-loop : tie.invariant-loop-i
 invariant-loop t i₀ i = free_process_place (tables_of t) ≡ processes_from (tables_of t) i
 
-abbrev decreases-loop : tie.decreases-loop
+abbrev decreases-loop : tie.decreases-loop-i
 decreases-loop t i₀ i = process_places - i
 
 pub free_process_place_spec : {M : Type 1} → statement M

@@ -6,10 +6,10 @@ use Rattle.tables.proofs.Filling.{cleared_to, filling}
 use Rattle.tables.proofs.initial.clear_namespaces.Statement.{statement}
 use Rattle.tables.proofs.initial.clear_namespaces.Tie as tie
 
-abbrev invariant-loop : tie.invariant-loop
+abbrev invariant-loop : tie.invariant-loop-i
 invariant-loop t₀ i₀ t i = (i ≤ namespace_places) × (tables_of t ≡ cleared_to (tables_of t₀) i)
 
-abbrev decreases-loop : tie.decreases-loop
+abbrev decreases-loop : tie.decreases-loop-i
 decreases-loop t₀ i₀ t i = namespace_places - i
 
 pub clear_namespaces_spec : {M : Type 1} → statement M
