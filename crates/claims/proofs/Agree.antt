@@ -43,8 +43,8 @@ module _ (s : State) (isP isN : ℕ → Bool) (place up level : ℕ → ℕ) (ma
         → Agrees (put_process s q p) isP' isN place' up level maps carries'
     unfolding namespace_at
     stores_process isP' place' carries' e f g o = record {
-      process_places_lem = simp length-set a.process_places_lem;
-      namespace_places_lem = a.namespace_places_lem;
+      processes_length = simp length-set a.processes_length;
+      namespaces_length = a.namespaces_length;
       process_live = λ i. after_process (λ (r : Process). r.live) isP i (a.process_live i) ∙ e i;
       process_place = λ i. after_process (λ (r : Process). r.namespace) place i (a.process_place i) ∙ f i;
       process_ids = λ k i. after_process (held_in k) (carries k) i (a.process_ids k i) ∙ g k i;
@@ -80,8 +80,8 @@ module _ (s : State) (isP isN : ℕ → Bool) (place up level : ℕ → ℕ) (ma
         → Agrees (put_namespace s q n) isP is_n' place up' level' maps' carries
     unfolding process_at
     stores_namespace is_n' up' level' maps' e f g m o = record {
-      process_places_lem = a.process_places_lem;
-      namespace_places_lem = simp length-set a.namespace_places_lem;
+      processes_length = a.processes_length;
+      namespaces_length = simp length-set a.namespaces_length;
       process_live = a.process_live;
       process_place = a.process_place;
       process_ids = a.process_ids;
@@ -97,8 +97,8 @@ module _ (s : State) (isP isN : ℕ → Bool) (place up level : ℕ → ℕ) (ma
   pub keeps_tables : (us gs : List (List ℕ)) → Agrees (record { processes = s.processes; namespaces = s.namespaces; user_starts = us; group_starts = gs }) isP isN place up level maps carries
   unfolding process_at namespace_at
   keeps_tables us gs = record {
-    process_places_lem = a.process_places_lem;
-    namespace_places_lem = a.namespace_places_lem;
+    processes_length = a.processes_length;
+    namespaces_length = a.namespaces_length;
     process_live = a.process_live;
     process_place = a.process_place;
     process_ids = a.process_ids;

@@ -51,7 +51,7 @@ parent_covered above ls z e (x, p) =
     let q = p.parent_is in
     let b = p.below_count in
     let l = get_or ls p.which no_line in
-    whole_has_line above l.parent l.count z (whole_each above ls p.which e p.in_range_lem) (omega arith, omega arith)
+    whole_has_line above l.parent l.count z (whole_each above ls p.which e p.which_in_range) (omega arith, omega arith)
 
 module _ (s : State) (h : List Event) (a : Agreed s h) (d : SoundAt h) where
   -- the tables' own levels and parents
@@ -180,15 +180,15 @@ bounds rs f =
       walk = λ i n c t u. capable_rules s h a d (process_at s i) c n u;
       out = λ k n x y small. by_history_lem (by_levels s) s h d (levels_history s h a d) k Out n x small y;
       back = λ k n y x small. by_history_lem (by_levels s) s h d (levels_history s h a d) k Back n y small x;
-      process_in_range = λ i t. rw a.process_places_lem at (process_in_range s i t);
-      namespace_in_range = λ n t. rw a.namespace_places_lem at (namespace_in_range s n t);
+      process_in_range = λ i t. rw a.processes_length at (process_in_range s i t);
+      namespace_in_range = λ n t. rw a.namespaces_length at (namespace_in_range s n t);
       place_live = λ i t.
           a.namespace_live (process_at s i).namespace ∙ ap (is_namespace h) (a.process_place i) ∙ d.placed (suc i) (sym (a.process_live i) ∙ t);
       parent_live = parent_is_live s h a d;
       levels = level_most s h a d;
       carried_ids = λ k i y q. held_small k h r.valid (suc i) y (subst (λ (m : Held). Has y (held m)) (a.process_ids k i) q);
       group_count = λ i. rw (a.process_count i) (few_groups h r.valid (suc i));
-      line_count_lem = line_counts s h a d;
+      line_counts = line_counts s h a d;
       lines_good = λ k n. rw (lines_agree s h a k n) ((good_means (written_lines k h n)).0 (d.good k n));
       whole = lines_whole s h a d;
       covered = λ k n z o. parent_covered (lines_at s k (namespace_at s n).parent) (lines_at s k n) z (lines_whole s h a d k n) o;

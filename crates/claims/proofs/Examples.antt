@@ -83,7 +83,7 @@ unfolding parent_of place_of
   where
     only_line : Pairs (line 0 100000 10 ∷ []) x z → z ≡ 1000 → ⊥
     only_line r q =
-        let w : r.which ≡ 0 = omega (arith, r.in_range_lem) in
+        let w : r.which ≡ 0 = omega (arith, r.which_in_range) in
         let z-is : z ≡ 100000 + r.offset = r.parent_is ∙ rw w in
         omega arith
 1000-not-mapped (x, through e z p (through f w q o)) = f refl
@@ -120,6 +120,6 @@ both_have : Stands User overlapping_events 1 100005 × Stands User overlapping_e
 unfolding written_of place_of map_lines checked text_lines all_of cons_of pieces filled line_of three_of
     numbers_of decimal_of all_digits decimal good_of bounded_of fits_of all_apart apart_of apart_side parent_of
 both_have = (
-  (5, through (not_zero 1 (omega arith)) 100005 (record { which = 0; in_range_lem = omega arith; offset = 5; below_count = omega arith; inside_is = refl; parent_is = refl }) (top {x = 100005} refl refl (omega arith))),
-  (0, through (not_zero 2 (omega arith)) 100005 (record { which = 0; in_range_lem = omega arith; offset = 0; below_count = omega arith; inside_is = refl; parent_is = refl }) (top {x = 100005} refl refl (omega arith))),
+  (5, through (not_zero 1 (omega arith)) 100005 (record { which = 0; which_in_range = omega arith; offset = 5; below_count = omega arith; inside_is = refl; parent_is = refl }) (top {x = 100005} refl refl (omega arith))),
+  (0, through (not_zero 2 (omega arith)) 100005 (record { which = 0; which_in_range = omega arith; offset = 0; below_count = omega arith; inside_is = refl; parent_is = refl }) (top {x = 100005} refl refl (omega arith))),
 )

@@ -183,7 +183,7 @@ module _ (by : Translation) (s : State) (h : List Event) (a : Agreed s h) (b : B
                 (λ j i. maps_after k j ls m i)
                 (λ j i. states_after k j ls m i))
                 _ _;
-            beside = stores_beside (put_namespace s n new) k n starts b.places (let q = a.namespace_places_lem in omega arith) (mapped k name text ∷ h)
+            beside = stores_beside (put_namespace s n new) k n starts b.places (let q = a.namespaces_length in omega arith) (mapped k name text ∷ h)
                 (λ j i. subst (λ (v : ℕ). StartedAt (mapped k name text ∷ h) j i (cond (same_kind j k && eqb i v) starts (starts_at s j i))) (sym (caller_place s h a name p e)) (starts_after j i));
             allowed = allowed;
           }

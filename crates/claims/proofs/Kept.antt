@@ -57,7 +57,7 @@ parent_kept (grouped c list) h a m t = refl
 
 -- lines that pair IDs are there to stay: a map is written once
 nothing_paired : (k j : Kind) (h : List Event) (m n x z : ℕ) → k ≡ j → m ≡ n → written_of j h n ≡ none → Pairs (written_lines k h m) x z → ⊥
-nothing_paired k j h m n x z d e f p = let g : written_of k h m ≡ none = rw (d, e) f in not-suc-le-zero (rw g at p.in_range_lem)
+nothing_paired k j h m n x z d e f p = let g : written_of k h m ≡ none = rw (d, e) f in not-suc-le-zero (rw g at p.which_in_range)
 
 pub pairs_kept : (k : Kind) (e : Event) (h : List Event) → Allowed h e → (m x z : ℕ) → Pairs (written_lines k h m) x z → Pairs (written_lines k (e ∷ h) m) x z
 unfolding written_of
@@ -90,7 +90,7 @@ module _ (e : Event) (h : List Event) (a : Allowed h e) (s : SoundAt h) where
 
   -- a namespace that has lines is one
   lined : (k : Kind) (m x z : ℕ) → Pairs (written_lines k h m) x z → is_namespace h m ≡ true
-  lined k m x z p = by_test (is_namespace h m) (λ t. t) (λ t. absurd (not-suc-le-zero (rw (s.made k m t) at p.in_range_lem)))
+  lined k m x z p = by_test (is_namespace h m) (λ t. t) (λ t. absurd (not-suc-le-zero (rw (s.made k m t) at p.which_in_range)))
 
   pub out_kept : (k : Kind) (n x y : ℕ) → OutOf k h n x y → OutOf k (e ∷ h) n x y
   out_kept k n x y (top f g b) = top f g b

@@ -60,7 +60,7 @@ module _ (ls : List Line) (g : good_of ls ≡ true) (x c : ℕ) (w : lies_whole 
   moved : (i : ℕ) → i < c → Pairs ls (x + i) (first + i)
   moved i h = record {
     which = there.which;
-    in_range_lem = there.in_range_lem;
+    which_in_range = there.which_in_range;
     offset = x - line.inside + i;
     below_count = omega (arith, there.first, there.last);
     inside_is = omega (arith, there.first);
@@ -81,7 +81,7 @@ module _ (ls : List Line) (g : good_of ls ≡ true) (x c : ℕ) (w : lies_whole 
     pub whole_on : (above : List Line) → all_whole (lies_whole above) ls ≡ true → 0 < c → lies_whole above z c ≡ true
     whole_on above e h =
         let s = only z h p in
-        whole_part above line.parent line.count z c (whole_each above ls there.which e there.in_range_lem) h (omega arith) (omega (arith, there.first, there.last))
+        whole_part above line.parent line.count z c (whole_each above ls there.which e there.which_in_range) h (omega arith) (omega (arith, there.first, there.last))
 
 module _ (up : ℕ → ℕ) (lines : ℕ → List Line) (good : (n : ℕ) → good_of (lines n) ≡ true) (whole : (n : ℕ) → all_whole (lies_whole (lines (up n))) (lines n) ≡ true) where
   abbrev Out : ℕ → ℕ → ℕ → Type 0
@@ -95,7 +95,7 @@ module _ (up : ℕ → ℕ) (lines : ℕ → List Line) (good : (n : ℕ) → go
   whole_small : (n x c i : ℕ) → lies_whole (lines n) x c ≡ true → i < c → x + i < no_id
   whole_small n x c i w h =
       let o = whole_in_lem (lines n) x c w in
-      let fits = (bounded_of_lem (lines n) (good n) o.which o.in_range_lem).inside_fits in
+      let fits = (bounded_of_lem (lines n) (good n) o.which o.which_in_range).inside_fits in
       omega (arith, o.last)
 
   -- ---- all levels: where the first of a range goes, the others go by the same offset

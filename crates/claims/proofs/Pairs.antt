@@ -28,15 +28,15 @@ out_pairs (l ∷ ls) x z small g e =
     let i = in_interval x l.inside l.count small w.inside_fits p in
     let z-is : moved_by l x ≡ z = cc (out_here l ls x p) in
     let m = moved_is l w x small p in
-    record { which = 0; in_range_lem = omega arith; offset = x - l.inside; below_count = omega arith; inside_is = omega arith; parent_is = sym z-is ∙ m })
+    record { which = 0; which_in_range = omega arith; offset = x - l.inside; below_count = omega arith; inside_is = omega arith; parent_is = sym z-is ∙ m })
     (λ p.
     let r = out_pairs ls x z small (good_others l ls g) (sym (out_later l ls x p) ∙ e) in
-    record { which = suc r.which; in_range_lem = omega arith; offset = r.offset; below_count = r.below_count; inside_is = r.inside_is; parent_is = r.parent_is })
+    record { which = suc r.which; which_in_range = omega arith; offset = r.offset; below_count = r.below_count; inside_is = r.inside_is; parent_is = r.parent_is })
 
 -- an ID that a line of a good map has is below 2 to the 32, on either side
 module _ (ls : List Line) (x z : ℕ) (g : good_of ls ≡ true) (p : Pairs ls x z) where
   bound_of : Bounded (get_or ls p.which no_line)
-  bound_of = ((good_means ls).0 g).bounded p.which p.in_range_lem
+  bound_of = ((good_means ls).0 g).bounded p.which p.which_in_range
 
   pub inside_small : x < no_id
   inside_small = let b = bound_of.inside_fits in let o = p.below_count in rw p.inside_is (omega arith)
@@ -63,7 +63,7 @@ pairs_at (l ∷ ls) x z g (suc i) o h b e f s =
 pub pairs_out : (ls : List Line) (x z : ℕ) → good_of ls ≡ true → Pairs ls x z → out ls x ≡ Id z
 pairs_out ls x z g p =
     let s = inside_small ls x z g p in
-    pairs_at ls x z g p.which p.offset p.in_range_lem p.below_count p.inside_is p.parent_is (omega arith)
+    pairs_at ls x z g p.which p.offset p.which_in_range p.below_count p.inside_is p.parent_is (omega arith)
 
 -- the way back alike
 pub back_pairs : (ls : List Line) (x z : ℕ) → z < 2 ^ 32 → good_of ls ≡ true → back ls z ≡ Id x → Pairs ls x z

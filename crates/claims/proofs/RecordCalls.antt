@@ -79,7 +79,7 @@ few_by Unwritten m e h = rw e (omega arith)
 few_by (Written c) m e h = let k = h c e in omega (arith, k)
 
 few_lines : (rs : List Request) → Bounds rs → FewLines (run rs)
-few_lines rs b k n = let m = map_in k (namespace_at (run rs) n) in few_by m.state m refl (λ c e. b.line_count_lem k n c e)
+few_lines rs b k n = let m = map_in k (namespace_at (run rs) n) in few_by m.state m refl (λ c e. b.line_counts k n c e)
 
 -- ---- the step that replays it, on an array a that calls have left
 module _ (l a lent : List ℕ) (at : ℕ) (rs : List Request) (r : Record) (are : tables_of a ≡ run rs) (fit : AllFit rs) (found : read_at l at ≡ Found r)

@@ -87,7 +87,7 @@ unwritten_whole whole o e = rw e
 module _ (isP isN : ℕ → Bool) (place up level : ℕ → ℕ) (maps : Kind → ℕ → Option (List Line)) (s : Sound isP isN place up level maps) where
   -- a namespace that has a line is one, so its level is above its parent's
   no_pairs : (k : Kind) (m x z : ℕ) → isN m ≡ false → Pairs (or_none (maps k m)) x z → ⊥
-  no_pairs k m x z f p = not-suc-le-zero (rw (s.made k m f) at p.in_range_lem)
+  no_pairs k m x z f p = not-suc-le-zero (rw (s.made k m f) at p.which_in_range)
 
   pub deep : (k : Kind) (m x z : ℕ) → (m ≡ 0 → ⊥) → Pairs (or_none (maps k m)) x z → level (up m) < level m
   deep k m x z h p = by_test (isN m) (λ t. let e = s.levelled m t h in omega arith) (λ t. absurd (no_pairs k m x z t p))

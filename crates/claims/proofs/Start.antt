@@ -48,8 +48,8 @@ free_state Group = refl
 empty_agrees : Agrees empty (λ (i : ℕ). false) (λ (i : ℕ). false) (λ (i : ℕ). 0) (λ (i : ℕ). 0) (λ (i : ℕ). 0) (λ (k : Kind) (i : ℕ). none) (λ (k : Kind) (i : ℕ). record { three = zero_ids; supplementary = [] })
 unfolding process_at namespace_at
 empty_agrees = record {
-  process_places_lem = length-replicate process_places free_process;
-  namespace_places_lem = length-replicate namespace_places free_namespace;
+  processes_length = length-replicate process_places free_process;
+  namespaces_length = length-replicate namespace_places free_namespace;
   process_live = λ i. ap (λ (p : Process). p.live) (all_same free_process process_places i);
   process_place = λ i. ap (λ (p : Process). p.namespace) (all_same free_process process_places i);
   process_ids = λ k i. ap (held_in k) (all_same free_process process_places i) ∙ free_ids k;

@@ -134,7 +134,7 @@ module _ (by : Translation) (s : State) (h : List Event) (a : Agreed s h) (b : B
     child_beside : (new : Event) → Allowed h new → ((k : Kind) → written_of k (new ∷ h) ≡ written_of k h) → Beside (with_child s p n) (new ∷ h)
     child_beside new allowed same =
         clears_beside (put_namespace s n child) (new ∷ h) n
-        (let r = (free_namespace_lem s n g).0 in let q = a.namespace_places_lem in omega arith)
+        (let r = (free_namespace_lem s n g).0 in let q = a.namespaces_length in omega arith)
         (λ k. ap (λ (w : ℕ → Option (List Line)). or_none (w n)) (same k) ∙ ap or_none (d.made k n unused))
         (keeps_beside s (new ∷ h) (event_kept new h allowed d s same b) _ _)
 

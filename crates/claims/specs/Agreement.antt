@@ -39,8 +39,8 @@ state_for (some ls) = Written (length ls)
 -- that are processes and namespaces, each process has its namespace and its IDs of both kinds, each namespace its
 -- parent, its level and its maps of both kinds
 pub record Agrees (s : State) (isP isN : ℕ → Bool) (place up level : ℕ → ℕ) (maps : Kind → ℕ → Option (List Line)) (carries : Kind → ℕ → Held) : Type 0 where
-  pub process_places_lem : length s.processes ≡ process_places
-  pub namespace_places_lem : length s.namespaces ≡ namespace_places
+  pub processes_length : length s.processes ≡ process_places
+  pub namespaces_length : length s.namespaces ≡ namespace_places
   pub process_live : (i : ℕ) → (process_at s i).live ≡ isP (process_number i)
   pub process_place : (i : ℕ) → namespace_number (process_at s i).namespace ≡ place (process_number i)
   pub process_ids : (k : Kind) (i : ℕ) → held_in k (process_at s i) ≡ carries k (process_number i)

@@ -61,7 +61,7 @@ module _ (rs : List Request) where
     pub carried_ids : (k : Kind) (i y : ℕ) → Has y (held (held_in k (process_at s i))) → y < no_id
     pub group_count : (i : ℕ) → (process_at s i).supplementary.count ≤ max_groups
     -- a written map has one to five lines, as many as its record says
-    pub line_count_lem : (k : Kind) (n c : ℕ) → (map_in k (namespace_at s n)).state ≡ Written c → (1 ≤ c) × (c ≤ max_lines) × (length (lines_at s k n) ≡ c)
+    pub line_counts : (k : Kind) (n c : ℕ) → (map_in k (namespace_at s n)).state ≡ Written c → (1 ≤ c) × (c ≤ max_lines) × (length (lines_at s k n) ≡ c)
     -- each of them is bounded, and no two overlap on either side
     pub lines_good : (k : Kind) (n : ℕ) → Good (lines_at s k n)
     -- document 02, L6: the parent side of each of them lies whole in one line of the parent's map

@@ -16,7 +16,7 @@ use Rattle.hierarchy.specs.Walks.{Translation, height_of, itself}
 -- an ID x inside and an ID z on the parent side belong together: some line has both, at the same offset
 pub record Pairs (ls : List Line) (x z : ℕ) : Type 0 where
   pub which : ℕ
-  pub in_range_lem : which < length ls
+  pub which_in_range : which < length ls
   pub offset : ℕ
   pub below_count : offset < (get_or ls which no_line).count
   pub inside_is : x ≡ (get_or ls which no_line).inside + offset

@@ -14,7 +14,7 @@ use Rattle.idmap.proofs.Reach.{reach_to_end, reach_has_line}
 -- ---- one line has both IDs
 pub record OneHas (ls : List Line) (x y : ℕ) : Type 0 where
   pub which : ℕ
-  pub in_range_lem : which < length ls
+  pub which_in_range : which < length ls
   pub first : Within x (get_or ls which no_line).inside (get_or ls which no_line).count
   pub last : Within y (get_or ls which no_line).inside (get_or ls which no_line).count
 
@@ -31,8 +31,8 @@ unfolding one_has
 one_has_lem [] x y e = absurd (true≢false (sym e))
 one_has_lem (l ∷ ls) x y e =
     by_test (has l x && has l y)
-    (λ t. let h = both (has l x) (has l y) t in record { which = 0; in_range_lem = omega arith; first = has_within l x h.0; last = has_within l y h.1 })
-    (λ t. let h = one_has_lem ls x y (sym (rw t) ∙ e) in record { which = suc h.which; in_range_lem = omega (arith, h.in_range_lem); first = h.first; last = h.last })
+    (λ t. let h = both (has l x) (has l y) t in record { which = 0; which_in_range = omega arith; first = has_within l x h.0; last = has_within l y h.1 })
+    (λ t. let h = one_has_lem ls x y (sym (rw t) ∙ e) in record { which = suc h.which; which_in_range = omega (arith, h.which_in_range); first = h.first; last = h.last })
 
 has_one : (ls : List Line) (x y i : ℕ) → i < length ls → Within x (get_or ls i no_line).inside (get_or ls i no_line).count → Within y (get_or ls i no_line).inside (get_or ls i no_line).count → one_has ls x y ≡ true
 unfolding one_has
@@ -49,13 +49,13 @@ whole_in_lem ls start count e = one_has_lem ls start (start + count - 1) (both (
 pub whole_has_line : (ls : List Line) (start count x : ℕ) → lies_whole ls start count ≡ true → Within x start count → HasLine ls x
 whole_has_line ls start count x e w =
     let h = whole_in_lem ls start count e in
-    (h.which, h.in_range_lem, (omega (arith, h.first), omega (arith, h.last)))
+    (h.which, h.which_in_range, (omega (arith, h.first), omega (arith, h.last)))
 
 pub whole_part : (ls : List Line) (start count from some : ℕ) → lies_whole ls start count ≡ true → 0 < some → start ≤ from → from + some ≤ start + count → lies_whole ls from some ≡ true
 unfolding lies_whole
 whole_part ls start count from some e h a b =
     let w = whole_in_lem ls start count e in
-    and_i _ _ (lt-ltb 0 some h) (has_one ls from (from + some - 1) w.which w.in_range_lem (omega (arith, w.first), omega (arith, w.last)) (omega (arith, w.first), omega (arith, w.last)))
+    and_i _ _ (lt-ltb 0 some h) (has_one ls from (from + some - 1) w.which w.which_in_range (omega (arith, w.first), omega (arith, w.last)) (omega (arith, w.first), omega (arith, w.last)))
 
 -- ---- of a good map a lookup's count decides it
 module _ (ls : List Line) (start count : ℕ) (g : good_of ls ≡ true) where
@@ -64,9 +64,9 @@ module _ (ls : List Line) (start count : ℕ) (g : good_of ls ≡ true) where
   whole_reach e =
       let b = both (ltb 0 count) (one_has ls start (start + count - 1)) e in
       let h = one_has_lem ls start (start + count - 1) b.1 in
-      let fits = (bounded_of_lem ls g h.which h.in_range_lem).inside_fits in
+      let fits = (bounded_of_lem ls g h.which h.which_in_range).inside_fits in
       let small : start < 2 ^ 32 = omega (arith, h.first) in
-      let r = reach_to_end ls start h.which g small h.in_range_lem h.first in
+      let r = reach_to_end ls start h.which g small h.which_in_range h.first in
       and_i _ _ (lt-ltb start (2 ^ 32) small) (and_i _ _ b.0 (le-leb count (reach_of ls start) (omega (arith, h.last))))
 
   reach_whole : whole_by_reach ls start count ≡ true → lies_whole ls start count ≡ true

@@ -81,7 +81,7 @@ module _ (l : Line) (ls : List Line) (g : good_of (l ∷ ls) ≡ true) (x y : �
       let left : left_from l x ≡ l.inside + l.count - x = omega arith in
       record {
         which = 0;
-        in_range_lem = omega arith;
+        which_in_range = omega arith;
         some = some_left l ls x t;
         in_line = λ i. ((λ h. (omega arith, omega arith)), λ v. omega arith);
         same_offset = λ i h.
@@ -94,16 +94,16 @@ module _ (l : Line) (ls : List Line) (g : good_of (l ∷ ls) ≡ true) (x y : �
   reaches_later : (n : ℕ) → Reaches ls x y n → Reaches (l ∷ ls) x y n
   reaches_later n r = record {
     which = suc r.which;
-    in_range_lem = omega (arith, r.in_range_lem);
+    which_in_range = omega (arith, r.which_in_range);
     some = r.some;
     in_line = r.in_line;
     same_offset = λ i h.
         let w = (r.in_line i).0 h in
         let fits = (good_first l ls g).inside_fits in
-        let ends = (bounded_of_lem ls (good_others l ls g) r.which r.in_range_lem).inside_fits in
+        let ends = (bounded_of_lem ls (good_others l ls g) r.which r.which_in_range).inside_fits in
         let low : x + i < 2 ^ 32 = omega arith in
         by_test (in_range (x + i) l.inside l.count)
-        (λ t. absurd ((apart_of_lem (l ∷ ls) g 0 (suc r.which) (omega arith) (omega (arith, r.in_range_lem))).on_inside (x + i) (in_interval (x + i) l.inside l.count low fits t) w))
+        (λ t. absurd ((apart_of_lem (l ∷ ls) g 0 (suc r.which) (omega arith) (omega (arith, r.which_in_range))).on_inside (x + i) (in_interval (x + i) l.inside l.count low fits t) w))
         (λ t. out_later l ls (x + i) t ∙ r.same_offset i h);
   }
 

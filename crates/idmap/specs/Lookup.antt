@@ -72,7 +72,7 @@ back ls id = out (map flip ls) id
 -- by the same offset as x, which becomes y
 pub record Reaches (ls : List Line) (x y n : ℕ) : Type 0 where
   pub which : ℕ
-  pub in_range_lem : which < length ls
+  pub which_in_range : which < length ls
   pub some : 0 < n
   pub in_line : (i : ℕ) → (i < n) ↔ Within (x + i) (slice_index_or ls which no_line).inside (slice_index_or ls which no_line).count
   pub same_offset : (i : ℕ) → i < n → out ls (x + i) ≡ Id (y + i)

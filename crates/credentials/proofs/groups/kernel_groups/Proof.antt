@@ -6,10 +6,10 @@ use Rattle.credentials.proofs.GroupLists.{ListedTo, grouping}
 use Rattle.credentials.proofs.groups.kernel_groups.Statement.{statement}
 use Rattle.credentials.proofs.groups.kernel_groups.Tie as tie
 
-abbrev invariant-loop : tie.invariant-loop
+abbrev invariant-loop : tie.invariant-loop-i
 invariant-loop t namespace list ids₀ i₀ ids i = (i ≤ length list) × ListedTo (tables_of t) namespace list ids i
 
-abbrev decreases-loop : tie.decreases-loop
+abbrev decreases-loop : tie.decreases-loop-i
 decreases-loop t namespace list ids₀ i₀ ids i = length list - i
 
 pub kernel_groups_spec : {M : Type 1} → statement M

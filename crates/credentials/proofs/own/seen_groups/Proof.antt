@@ -6,10 +6,10 @@ use Rattle.credentials.proofs.OwnIds.{SeenTo, showing}
 use Rattle.credentials.proofs.own.seen_groups.Statement.{statement}
 use Rattle.credentials.proofs.own.seen_groups.Tie as tie
 
-abbrev invariant-loop : tie.invariant-loop
+abbrev invariant-loop : tie.invariant-loop-i
 invariant-loop t namespace kernel end ids₀ i₀ ids i = (i ≤ end) × SeenTo (by_kernel_starts (tables_of t)) namespace kernel ids i
 
-abbrev decreases-loop : tie.decreases-loop
+abbrev decreases-loop : tie.decreases-loop-i
 decreases-loop t namespace kernel end ids₀ i₀ ids i = end - i
 
 pub seen_groups_spec : {M : Type 1} → statement M

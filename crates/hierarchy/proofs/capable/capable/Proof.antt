@@ -7,11 +7,11 @@ use Rattle.hierarchy.proofs.Capability.{walking}
 use Rattle.hierarchy.proofs.capable.capable.Statement.{statement}
 use Rattle.hierarchy.proofs.capable.capable.Tie as tie
 
-abbrev invariant-loop : tie.invariant-loop
+abbrev invariant-loop : tie.invariant-loop-at
 invariant-loop t place capability own euid mine left₀ at₀ left at =
     holds_in (tables_of t) own euid mine left at ≡ holds_in (tables_of t) own euid mine left₀ at₀
 
-abbrev decreases-loop : tie.decreases-loop
+abbrev decreases-loop : tie.decreases-loop-at
 decreases-loop t place capability own euid mine left₀ at₀ left at = left
 
 pub capable_spec : {M : Type 1} → statement M

@@ -13,12 +13,12 @@ use Rattle.mapping.proofs.Reading.{reading}
 use Rattle.mapping.proofs.read.put_lines.Statement.{statement}
 use Rattle.mapping.proofs.read.put_lines.Tie as tie
 
-abbrev invariant-loop : tie.invariant-loop
+abbrev invariant-loop : tie.invariant-loop-i
 invariant-loop t kind n v count buffer₀ lines i₀ buffer i =
     (i ≤ count) × (length lines ≡ max_lines) × (length buffer ≡ length buffer₀)
     × (buffer ≡ put_at buffer₀ 0 (lines_text (map (shown_line (by_kernel_starts (tables_of t)) (tables_of t) kind n v) (take i lines))))
 
-abbrev decreases-loop : tie.decreases-loop
+abbrev decreases-loop : tie.decreases-loop-i
 decreases-loop t kind n v count buffer₀ lines i₀ buffer i = count - i
 
 pub put_lines_spec : {M : Type 1} → statement M

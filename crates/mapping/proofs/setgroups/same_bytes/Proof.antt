@@ -1,16 +1,16 @@
--- `mapping::setgroups::same_bytes_lem` meets its contract. Assumes nothing.
+-- `mapping::setgroups::same_bytes` meets its contract. Assumes nothing.
 use mathlib.Core.Path.{◌≡◌}
 use Prim.Native.Nat.{◌-◌}
 use lib.ListN.{length, drop}
 use Rattle.mapping.specs.Calls.{same_bytes}
 use Rattle.mapping.proofs.Settings.{settings}
-use Rattle.mapping.proofs.setgroups.same_bytes_lem.Statement.{statement}
-use Rattle.mapping.proofs.setgroups.same_bytes_lem.Tie as tie
+use Rattle.mapping.proofs.setgroups.same_bytes.Statement.{statement}
+use Rattle.mapping.proofs.setgroups.same_bytes.Tie as tie
 
-abbrev invariant-loop : tie.invariant-loop
+abbrev invariant-loop : tie.invariant-loop-i
 invariant-loop a b i₀ i = same_bytes (drop i a) (drop i b) ≡ same_bytes a b
 
-abbrev decreases-loop : tie.decreases-loop
+abbrev decreases-loop : tie.decreases-loop-i
 decreases-loop a b i₀ i = length a - i
 
 pub same_bytes_spec : {M : Type 1} → statement M

@@ -1,4 +1,4 @@
--- `mapping::write::all_whole_lem` meets its contract. Assumes nothing.
+-- `mapping::write::all_whole` meets its contract. Assumes nothing.
 use mathlib.Core.Path.{◌≡◌}
 use Prim.Native.Nat.{◌-◌}
 use lib.ListN.{take, drop}
@@ -7,13 +7,13 @@ use Rattle.idmap.specs.Ranges.{whole_by_reach}
 use Rattle.idmap.specs.Good.{max_lines}
 use Rattle.mapping.specs.Calls.{all_whole}
 use Rattle.mapping.proofs.Writes.{wholly}
-use Rattle.mapping.proofs.write.all_whole_lem.Statement.{statement}
-use Rattle.mapping.proofs.write.all_whole_lem.Tie as tie
+use Rattle.mapping.proofs.write.all_whole.Statement.{statement}
+use Rattle.mapping.proofs.write.all_whole.Tie as tie
 
-abbrev invariant-loop : tie.invariant-loop
+abbrev invariant-loop : tie.invariant-loop-i
 invariant-loop above count lines i₀ i = all_whole (whole_by_reach (lines_in above)) (take count lines) ≡ all_whole (whole_by_reach (lines_in above)) (drop i (take count lines))
 
-abbrev decreases-loop : tie.decreases-loop
+abbrev decreases-loop : tie.decreases-loop-i
 decreases-loop above count lines i₀ i = max_lines - i
 
 pub all_whole_spec : {M : Type 1} → statement M

@@ -10,13 +10,13 @@ use Rattle.mapping.proofs.Writes.{StartsTo, starting}
 use Rattle.mapping.proofs.write.kernel_starts.Statement.{statement}
 use Rattle.mapping.proofs.write.kernel_starts.Tie as tie
 
-abbrev invariant-loop : tie.invariant-loop
+abbrev invariant-loop : tie.invariant-loop-i
 invariant-loop t kind parent count lines kernel₀ i₀ kernel i = (i ≤ count) × (i ≤ max_lines) × (length kernel ≡ max_lines) × StartsTo (to_kernel (tables_of t) kind parent) lines count kernel i
 
-abbrev decreases-loop : tie.decreases-loop
+abbrev decreases-loop : tie.decreases-loop-i
 decreases-loop t kind parent count lines kernel₀ i₀ kernel i = max_lines - i
 
-loop-again : tie.Need-loop-preserved invariant-loop decreases-loop
+loop-again : tie.Need-loop-i-preserved invariant-loop decreases-loop
 loop-again c = (search rules, search rules, search rules, search starting)
 
 pub kernel_starts_spec : {M : Type 1} → statement M

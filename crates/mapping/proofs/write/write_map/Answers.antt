@@ -1,0 +1,14 @@
+-- `mapping::write::write_map` meets its contract. Assumes nothing.
+use Rattle.mapping.proofs.Writes.{writing, write_found}
+use Rattle.mapping.proofs.write.write_map.Goals as goal
+
+pub returns-in_default : goal.returns-in_default
+returns-in_default c = search writing
+
+pub returns-in_default-named_process : goal.returns-in_default-named_process
+returns-in_default-named_process c = search writing
+
+pub returns : goal.returns
+returns c =
+    write_found _ _ _ _ _ _ _ c.find_caller.ensures _ c.in-At.is _ c.named_process.ensures _ _ _ _ _
+    c.in-At-named_process.is c.process_at-w.ensures c.process_at-p.ensures c.write_to.ensures
