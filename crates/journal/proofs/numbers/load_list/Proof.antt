@@ -8,10 +8,10 @@ use Rattle.journal.proofs.Gets.{gets}
 use Rattle.journal.proofs.numbers.load_list.Statement.{statement}
 use Rattle.journal.proofs.numbers.load_list.Tie as tie
 
-abbrev invariant-loop : tie.invariant-loop
+abbrev invariant-loop : tie.invariant-loop-i
 invariant-loop s at count list₀ i₀ list i = (i ≤ count) × (length list ≡ length list₀) × (list ≡ paste list₀ 0 (numbers_at 4 count at s) i)
 
-abbrev decreases-loop : tie.decreases-loop
+abbrev decreases-loop : tie.decreases-loop-i
 decreases-loop s at count list₀ i₀ list i = count - i
 
 pub load_list_spec : {M : Type 1} → statement M

@@ -8,12 +8,12 @@ use Rattle.journal.proofs.Puts.{Rest, puts}
 use Rattle.journal.proofs.numbers.put_list.Statement.{statement}
 use Rattle.journal.proofs.numbers.put_list.Tie as tie
 
-abbrev invariant-loop : tie.invariant-loop
+abbrev invariant-loop : tie.invariant-loop-i
 invariant-loop buffer₀ at list place₀ i₀ i-end buffer place i =
     (i ≤ length list) × (i-end ≡ length list) × (length buffer ≡ length buffer₀) × (length buffer < 2 ^ 64)
     × Rest buffer (put_at buffer₀ at (all_big_endian 4 list)) place 4 list i
 
-abbrev decreases-loop : tie.decreases-loop
+abbrev decreases-loop : tie.decreases-loop-i
 decreases-loop buffer₀ at list place₀ i₀ i-end buffer place i = length list - i
 
 pub put_list_spec : {M : Type 1} → statement M

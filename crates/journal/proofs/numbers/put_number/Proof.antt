@@ -8,10 +8,10 @@ use Rattle.journal.proofs.Puts.{puts}
 use Rattle.journal.proofs.numbers.put_number.Statement.{statement}
 use Rattle.journal.proofs.numbers.put_number.Tie as tie
 
-abbrev invariant-loop : tie.invariant-loop
+abbrev invariant-loop : tie.invariant-loop-k
 invariant-loop buffer₀ at width x left₀ k₀ buffer left k = (k ≤ width) × (length buffer ≡ length buffer₀) × (put_at buffer at (big_endian k left) ≡ put_at buffer₀ at (big_endian width x))
 
-abbrev decreases-loop : tie.decreases-loop
+abbrev decreases-loop : tie.decreases-loop-k
 decreases-loop buffer₀ at width x left₀ k₀ buffer left k = k
 
 pub put_number_spec : {M : Type 1} → statement M

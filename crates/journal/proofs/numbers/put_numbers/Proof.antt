@@ -8,12 +8,12 @@ use Rattle.journal.proofs.Puts.{Rest, puts}
 use Rattle.journal.proofs.numbers.put_numbers.Statement.{statement}
 use Rattle.journal.proofs.numbers.put_numbers.Tie as tie
 
-abbrev invariant-loop : tie.invariant-loop
+abbrev invariant-loop : tie.invariant-loop-i
 invariant-loop buffer₀ at width numbers place₀ i₀ i-end buffer place i =
     (i ≤ length numbers) × (i-end ≡ length numbers) × (length buffer ≡ length buffer₀) × (length buffer < 2 ^ 64)
     × Rest buffer (put_at buffer₀ at (all_big_endian width numbers)) place width numbers i
 
-abbrev decreases-loop : tie.decreases-loop
+abbrev decreases-loop : tie.decreases-loop-i
 decreases-loop buffer₀ at width numbers place₀ i₀ i-end buffer place i = length numbers - i
 
 pub put_numbers_spec : {M : Type 1} → statement M
