@@ -7,10 +7,10 @@ use Rattle.exports.proofs.Coding.{stores}
 use Rattle.exports.proofs.store.Statement.{statement}
 use Rattle.exports.proofs.store.Tie as tie
 
-abbrev invariant-loop : tie.invariant-loop
+abbrev invariant-loop : tie.invariant-loop-i
 invariant-loop buffer₀ words i₀ i-end buffer i = (i ≤ length words) × (i-end ≡ length words) × (length buffer ≡ length buffer₀) × (buffer ≡ paste buffer₀ 0 words i)
 
-abbrev decreases-loop : tie.decreases-loop
+abbrev decreases-loop : tie.decreases-loop-i
 decreases-loop buffer₀ words i₀ i-end buffer i = length words - i
 
 pub store_spec : {M : Type 1} → statement M
