@@ -22,9 +22,11 @@ use records::{Kind, MAX_GROUPS};
 use tables::answer::{Answer, Errno};
 use tables::{TABLES_WIDTH, Tables};
 
-mod record;
-mod replay;
+pub mod record;
+pub mod replay;
 mod words;
+
+pub use words::RECORD_WORDS;
 
 // The number of a refusal.
 fn number(e: Errno) -> u64
@@ -70,22 +72,19 @@ pub(crate) fn code(a: Answer) -> u64
 }
 
 // How many words the lent array has, so that a program can compare its own declaration.
-#[unsafe(no_mangle)]
-pub extern "C" fn oarhatchet_words() -> u64
+pub fn oarhatchet_words() -> u64
     ensures { result ≡ tables_width }
 {
     TABLES_WIDTH as u64
 }
 
-#[unsafe(no_mangle)]
-pub extern "C" fn oarhatchet_initial(t: &mut Tables)
+pub fn oarhatchet_initial(t: &mut Tables)
     ensures { tables_of t.new ≡ initial_tables }
 {
     tables::initial::initial(t)
 }
 
-#[unsafe(no_mangle)]
-pub extern "C" fn oarhatchet_fork(t: &mut Tables, caller: u64) -> u64
+pub fn oarhatchet_fork(t: &mut Tables, caller: u64) -> u64
     ensures { Coded result t.old t.new (fork_of (tables_of t.old) caller) }
 {
     code(process::fork(t, caller))
@@ -109,8 +108,7 @@ pub(crate) fn space(a: Answer, old: u64) -> u64
     }
 }
 
-#[unsafe(no_mangle)]
-pub extern "C" fn oarhatchet_clone(t: &mut Tables, caller: u64, new_namespace: &mut u64) -> u64
+pub fn oarhatchet_clone(t: &mut Tables, caller: u64, new_namespace: &mut u64) -> u64
     ensures coded { Coded result t.old t.new (quick clone_of (tables_of t.old) caller) }
     ensures new_namespace_after { new_namespace.new ≡ space_after (quick clone_of (tables_of t.old) caller).reply new_namespace.old }
 {
@@ -119,94 +117,55 @@ pub extern "C" fn oarhatchet_clone(t: &mut Tables, caller: u64, new_namespace: &
     code(answer)
 }
 
-#[unsafe(no_mangle)]
-pub extern "C" fn oarhatchet_unshare(t: &mut Tables, caller: u64) -> u64
+pub fn oarhatchet_unshare(t: &mut Tables, caller: u64) -> u64
     ensures { Coded result t.old t.new (quick unshare_of (tables_of t.old) caller) }
 {
     code(process::unshare(t, caller))
 }
 
-#[unsafe(no_mangle)]
-pub extern "C" fn oarhatchet_setns(t: &mut Tables, caller: u64, target: u64) -> u64
+pub fn oarhatchet_setns(t: &mut Tables, caller: u64, target: u64) -> u64
     ensures { Coded result t.old t.new (setns_of (tables_of t.old) caller target) }
 {
     code(process::setns(t, caller, target))
 }
 
-#[unsafe(no_mangle)]
-pub extern "C" fn oarhatchet_write_uid_map(
-    t: &mut Tables,
-    caller: u64,
-    process: u64,
-    text: &[u8],
-) -> u64
+pub fn oarhatchet_write_uid_map(t: &mut Tables, caller: u64, process: u64, text: &[u8]) -> u64
     ensures { Coded result t.old t.new (quick write_map_of (tables_of t.old) User caller process text.now) }
 {
     code(mapping::write::write_map(t, Kind::User, caller, process, text))
 }
 
-#[unsafe(no_mangle)]
-pub extern "C" fn oarhatchet_write_gid_map(
-    t: &mut Tables,
-    caller: u64,
-    process: u64,
-    text: &[u8],
-) -> u64
+pub fn oarhatchet_write_gid_map(t: &mut Tables, caller: u64, process: u64, text: &[u8]) -> u64
     ensures { Coded result t.old t.new (quick write_map_of (tables_of t.old) Group caller process text.now) }
 {
     code(mapping::write::write_map(t, Kind::Group, caller, process, text))
 }
 
-#[unsafe(no_mangle)]
-pub extern "C" fn oarhatchet_write_setgroups(
-    t: &mut Tables,
-    caller: u64,
-    process: u64,
-    text: &[u8],
-) -> u64
+pub fn oarhatchet_write_setgroups(t: &mut Tables, caller: u64, process: u64, text: &[u8]) -> u64
     ensures { Coded result t.old t.new (write_setgroups_of (tables_of t.old) caller process text.now) }
 {
     code(mapping::setgroups::write_setgroups(t, caller, process, text))
 }
 
-#[unsafe(no_mangle)]
-pub extern "C" fn oarhatchet_read_uid_map(
-    t: &Tables,
-    caller: u64,
-    process: u64,
-    buffer: &mut [u8],
-) -> u64
+pub fn oarhatchet_read_uid_map(t: &Tables, caller: u64, process: u64, buffer: &mut [u8]) -> u64
     ensures { CodedRead result buffer.new (quick read_map_of (tables_of t.now) User caller process buffer.old) }
 {
     code(mapping::read::read_map(t, Kind::User, caller, process, buffer))
 }
 
-#[unsafe(no_mangle)]
-pub extern "C" fn oarhatchet_read_gid_map(
-    t: &Tables,
-    caller: u64,
-    process: u64,
-    buffer: &mut [u8],
-) -> u64
+pub fn oarhatchet_read_gid_map(t: &Tables, caller: u64, process: u64, buffer: &mut [u8]) -> u64
     ensures { CodedRead result buffer.new (quick read_map_of (tables_of t.now) Group caller process buffer.old) }
 {
     code(mapping::read::read_map(t, Kind::Group, caller, process, buffer))
 }
 
-#[unsafe(no_mangle)]
-pub extern "C" fn oarhatchet_read_setgroups(
-    t: &Tables,
-    caller: u64,
-    process: u64,
-    buffer: &mut [u8],
-) -> u64
+pub fn oarhatchet_read_setgroups(t: &Tables, caller: u64, process: u64, buffer: &mut [u8]) -> u64
     ensures { CodedRead result buffer.new (read_setgroups_of (tables_of t.now) caller process buffer.old) }
 {
     code(mapping::read::read_setgroups(t, caller, process, buffer))
 }
 
-#[unsafe(no_mangle)]
-pub extern "C" fn oarhatchet_setresuid(
+pub fn oarhatchet_setresuid(
     t: &mut Tables,
     caller: u64,
     real: u32,
@@ -218,8 +177,7 @@ pub extern "C" fn oarhatchet_setresuid(
     code(credentials::ids::set_ids(t, Kind::User, caller, real, effective, saved))
 }
 
-#[unsafe(no_mangle)]
-pub extern "C" fn oarhatchet_setresgid(
+pub fn oarhatchet_setresgid(
     t: &mut Tables,
     caller: u64,
     real: u32,
@@ -231,34 +189,26 @@ pub extern "C" fn oarhatchet_setresgid(
     code(credentials::ids::set_ids(t, Kind::Group, caller, real, effective, saved))
 }
 
-#[unsafe(no_mangle)]
-pub extern "C" fn oarhatchet_setgroups(t: &mut Tables, caller: u64, list: &[u32]) -> u64
+pub fn oarhatchet_setgroups(t: &mut Tables, caller: u64, list: &[u32]) -> u64
     ensures { Coded result t.old t.new (quick set_groups_of (tables_of t.old) caller list.now) }
 {
     code(credentials::groups::setgroups(t, caller, list))
 }
 
-#[unsafe(no_mangle)]
-pub extern "C" fn oarhatchet_capable(t: &Tables, caller: u64, target: u64, number: u32) -> u64
+pub fn oarhatchet_capable(t: &Tables, caller: u64, target: u64, number: u32) -> u64
     ensures { result ≡ code_of (capable_reply (tables_of t.now) caller target number) }
 {
     code(credentials::capability_calls::ask(t, caller, target, number))
 }
 
-#[unsafe(no_mangle)]
-pub extern "C" fn oarhatchet_capset(
-    t: &mut Tables,
-    caller: u64,
-    permitted: u64,
-    effective: u64,
-) -> u64
+pub fn oarhatchet_capset(t: &mut Tables, caller: u64, permitted: u64, effective: u64) -> u64
     ensures { Coded result t.old t.new (drop_of (tables_of t.old) caller permitted effective) }
 {
     code(credentials::capability_calls::drop(t, caller, permitted, effective))
 }
 
 // The words of own IDs: three user IDs, three group IDs, and as many places as there may be groups.
-pub(crate) const OWN_WORDS: usize = 6 + MAX_GROUPS;
+pub const OWN_WORDS: usize = 6 + MAX_GROUPS;
 
 pub(crate) fn row(own: OwnIds) -> [u32; OWN_WORDS]
     ensures { result ≡ ids_row own }
@@ -303,8 +253,7 @@ pub(crate) fn store(buffer: &mut [u32], words: &[u32])
     }
 }
 
-#[unsafe(no_mangle)]
-pub extern "C" fn oarhatchet_getids(t: &Tables, caller: u64, ids: &mut [u32; OWN_WORDS]) -> u64
+pub fn oarhatchet_getids(t: &Tables, caller: u64, ids: &mut [u32; OWN_WORDS]) -> u64
     ensures { CodedIds result ids.old ids.new (quick own_ids_of (tables_of t.now) caller) }
 {
     let result = credentials::own::own_ids(t, caller);
@@ -321,39 +270,25 @@ pub extern "C" fn oarhatchet_getids(t: &Tables, caller: u64, ids: &mut [u32; OWN
     }
 }
 
-#[unsafe(no_mangle)]
-pub extern "C" fn oarhatchet_translate_uid_out(t: &Tables, caller: u64, target: u64, id: u32) -> u64
+pub fn oarhatchet_translate_uid_out(t: &Tables, caller: u64, target: u64, id: u32) -> u64
     ensures { result ≡ code_of (quick translate_reply (tables_of t.now) User Out caller target id) }
 {
     code(credentials::translate::translate(t, Kind::User, Way::Out, caller, target, id))
 }
 
-#[unsafe(no_mangle)]
-pub extern "C" fn oarhatchet_translate_uid_back(
-    t: &Tables,
-    caller: u64,
-    target: u64,
-    id: u32,
-) -> u64
+pub fn oarhatchet_translate_uid_back(t: &Tables, caller: u64, target: u64, id: u32) -> u64
     ensures { result ≡ code_of (quick translate_reply (tables_of t.now) User Back caller target id) }
 {
     code(credentials::translate::translate(t, Kind::User, Way::Back, caller, target, id))
 }
 
-#[unsafe(no_mangle)]
-pub extern "C" fn oarhatchet_translate_gid_out(t: &Tables, caller: u64, target: u64, id: u32) -> u64
+pub fn oarhatchet_translate_gid_out(t: &Tables, caller: u64, target: u64, id: u32) -> u64
     ensures { result ≡ code_of (quick translate_reply (tables_of t.now) Group Out caller target id) }
 {
     code(credentials::translate::translate(t, Kind::Group, Way::Out, caller, target, id))
 }
 
-#[unsafe(no_mangle)]
-pub extern "C" fn oarhatchet_translate_gid_back(
-    t: &Tables,
-    caller: u64,
-    target: u64,
-    id: u32,
-) -> u64
+pub fn oarhatchet_translate_gid_back(t: &Tables, caller: u64, target: u64, id: u32) -> u64
     ensures { result ≡ code_of (quick translate_reply (tables_of t.now) Group Back caller target id) }
 {
     code(credentials::translate::translate(t, Kind::Group, Way::Back, caller, target, id))

@@ -54,8 +54,7 @@ fn bytes(w: Written) -> u64
 // Writes the record of the call that has this call byte into a buffer from a place on. Its names, the caller first, and
 // its other numbers stand in order in the two arrays; of a read the buffer's length stands beside them. What the call
 // does not have is not looked at.
-#[unsafe(no_mangle)]
-pub extern "C" fn oarhatchet_write_record(
+pub fn oarhatchet_write_record(
     call: u8,
     names: &[u64; 3],
     numbers: &[u32; 3],

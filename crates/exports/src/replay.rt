@@ -58,8 +58,7 @@ fn put_own(r: Response, ids: &mut [u32; OWN_WORDS])
 // byte is read, and the record after it. The IDs of the call's list, the text of a read and own IDs are put into what
 // is lent for them. Ruled out, for instance: the offset asked for in place of the bad record's; a call's arguments in
 // another order than the journal has them.
-#[unsafe(no_mangle)]
-pub extern "C" fn oarhatchet_replay(
+pub fn oarhatchet_replay(
     t: &mut Tables,
     journal: &[u8],
     at: usize,
