@@ -3,8 +3,8 @@ use mathlib.Core.Path.{◌≡◌, ap, ◌∙◌}
 use mathlib.Core.List.{List}
 use Prim.Native.Nat.{ℕ}
 use borrow.Author.Rules.{rules}
-use Rattle.idmap.specs.declared.text.TextRead.{TextRead}
-use Rattle.idmap.specs.Scan.{text_read}
+use Rattle.map_reader.specs.declared.text.TextRead.{TextRead}
+use Rattle.map_reader.specs.Scan.{text_read}
 use Rattle.map_reader.specs.Reader.{lines_of}
 
 module _ (s : List ℕ) (r : TextRead) (e : r ≡ text_read s) where

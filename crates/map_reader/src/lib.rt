@@ -2,10 +2,13 @@
 #![tactic(auto)]
 
 ghost use Rattle.std.specs.Prelude.{◌≡◌};
-ghost use Rattle.idmap.specs.Scan.{text_read};
+ghost use Rattle.map_reader.specs.Scan.{text_read};
 ghost use Rattle.map_reader.specs.Reader.{lines_of};
 
-use idmap::text::{Parsed, read_text};
+mod text;
+
+use crate::text::read_text;
+use idmap::text::Parsed;
 
 fn lines(parsed: Parsed) -> u64
     ensures { result ≡ lines_of parsed }

@@ -1,6 +1,6 @@
 -- `tables::initial::fill_processes`: the first `i` places are in the tables.
-use Rattle.std.proofs.Common.{◌≡◌, ◌≤◌}
-use Rattle.tables.specs.Tables.{process_places, tables_of, initial_tables}
+use Rattle.std.proofs.Common.{◌≡◌}
+use Rattle.tables.specs.Tables.{tables_of, initial_tables}
 use Rattle.tables.proofs.Filling.{processes_in}
 use Rattle.tables.proofs.initial.fill_processes.Given as goal
 
