@@ -27,7 +27,7 @@ use Rattle.credentials.specs.declared.own.OwnAnswer.TheVariants.{Told, NotTold}
 use Rattle.credentials.specs.declared.own.OwnResult.{OwnResult}
 use Rattle.credentials.specs.OwnReply.{own_reply_by}
 use Rattle.credentials.specs.declared.translate.Way.{Way}
-use Rattle.credentials.specs.Calls.{set_ids_of, group_list, set_groups_of, capable_reply, drop_of, seen, seen_ids, seen_groups, no_own_ids, own_ids_of, translate_reply}
+use Rattle.credentials.specs.Calls.{set_ids_of, group_list, set_groups_of, capable_reply, drop_of, seen, seen_ids, seen_groups, own_ids_of, translate_reply}
 use Rattle.calls.specs.declared.CallAnswer.TheVariants.{Plain, Own}
 use Rattle.calls.specs.declared.Response.{Response}
 use Rattle.calls.specs.declared.Call.{Call}

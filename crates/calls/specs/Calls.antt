@@ -1,5 +1,5 @@
 -- Every call of document 01 with all that is lent to it, and what it answers. Assumes nothing.
-use Rattle.std.specs.Prelude.{ℕ, ◌≡◌, true, List, [], ◌∷◌, get_or, drop}
+use Rattle.std.specs.Prelude.{ℕ, ◌≡◌, true, List, [], get_or, drop}
 use Rattle.tables.specs.declared.answer.Answer.{Answer}
 use Rattle.tables.specs.declared.answer.Answer.TheVariants.{Refused}
 use Rattle.tables.specs.Tables.{State, tables_of}

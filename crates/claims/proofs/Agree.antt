@@ -18,7 +18,7 @@ use Rattle.records.specs.declared.IdMap.{IdMap}
 use Rattle.records.specs.Records.{map_in, lines_if, lines_of}
 use Rattle.tables.specs.declared.find.Found.TheVariants.{At}
 use Rattle.tables.specs.Tables.{State, process_at, namespace_at, put_process, put_namespace}
-use Rattle.tables.specs.Find.{process_named, caller_named}
+use Rattle.tables.specs.Find.{caller_named}
 use Rattle.prelude.proofs.Tests.{by_test}
 use Rattle.claims.specs.Events.{Event}
 use Rattle.claims.specs.Words.{Held, is_process, place_of, or_none, written_lines, held_of}

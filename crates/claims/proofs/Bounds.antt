@@ -12,7 +12,6 @@ use borrow.Author.Tests.{eq-eqb, ne_eqb, eqb-true, eqb-false}
 use Rattle.capability.specs.Sets.{holds}
 use Rattle.idmap.specs.declared.Line.{Line}
 use Rattle.idmap.specs.declared.Translated.TheVariants.{Unmapped}
-use Rattle.idmap.specs.Lookup.{out, back}
 use Rattle.idmap.specs.Line.{no_line}
 use Rattle.idmap.specs.Good.{max_lines}
 use Rattle.idmap.specs.Ranges.{lies_whole, HasLine}

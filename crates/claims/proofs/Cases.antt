@@ -1,6 +1,6 @@
 -- What each call that may store can come to: a refusal of document 01's table, or its one success with the facts that
 -- it had found. A fact about every call is proved by these cases. Assumes nothing.
-use Prim.Native.Nat.{ℕ, ◌+◌}
+use Prim.Native.Nat.{ℕ}
 use mathlib.Core.Path.{◌≡◌, refl}
 use mathlib.Core.Bool.{Bool, true, false, cond}
 use mathlib.Core.List.{List}

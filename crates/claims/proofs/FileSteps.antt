@@ -25,7 +25,7 @@ use Rattle.records.specs.declared.IdMap.{IdMap}
 use Rattle.records.specs.Records.{map_in, is_written, with_map, with_deny}
 use Rattle.tables.specs.declared.find.Found.TheVariants.{At}
 use Rattle.tables.specs.Tables.{State, process_at, namespace_at, starts_at, put_namespace, put_map}
-use Rattle.tables.specs.Find.{process_named, caller_named}
+use Rattle.tables.specs.Find.{caller_named}
 use Rattle.hierarchy.specs.Walks.{Translation}
 use Rattle.hierarchy.specs.KernelStarts.{kernel_starts}
 use Rattle.idmap.proofs.Goodness.{good_first, good_others}

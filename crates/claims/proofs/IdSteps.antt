@@ -21,7 +21,7 @@ use Rattle.records.specs.declared.Process.{Process}
 use Rattle.records.specs.Records.{ids_in, max_groups}
 use Rattle.tables.specs.declared.find.Found.TheVariants.{At}
 use Rattle.tables.specs.Tables.{State, process_at, put_process}
-use Rattle.tables.specs.Find.{process_named, caller_named}
+use Rattle.tables.specs.Find.{caller_named}
 use Rattle.hierarchy.specs.Walks.{Translation}
 use Rattle.credentials.specs.Calls.{chosen, with_users, with_groups, with_ids, set_ids_of, to_option, group_list, with_list, kernel_groups, set_groups_of, with_sets, drop_of}
 use Rattle.calls.specs.declared.Call.TheVariants.{SetIds, SetGroups, Drop}

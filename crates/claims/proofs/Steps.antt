@@ -1,6 +1,6 @@
 -- Fork, clone, unshare and setns, and the reads and questions: what each leaves agrees with its history, and it was
 -- allowed. Assumes nothing.
-use Prim.Native.Nat.{ℕ, zero, suc, ◌+◌}
+use Prim.Native.Nat.{ℕ, zero, suc}
 use mathlib.Core.Path.{◌≡◌, refl, sym, ap, ◌∙◌}
 use mathlib.Core.Bool.{Bool, true, false, cond, true≢false}
 use mathlib.Core.List.{List, ◌∷◌}
@@ -20,7 +20,7 @@ use Rattle.records.specs.declared.MapState.TheVariants.{Unwritten}
 use Rattle.records.specs.Records.{map_in}
 use Rattle.tables.specs.declared.find.Found.TheVariants.{At}
 use Rattle.tables.specs.Tables.{State, process_at, namespace_at, put_process, put_namespace, max_level}
-use Rattle.tables.specs.Find.{process_named, namespace_named, free_process_place, free_namespace_place, caller_named, process_number}
+use Rattle.tables.specs.Find.{namespace_named, free_process_place, free_namespace_place, caller_named, process_number}
 use Rattle.tables.specs.Reply.{Outcome}
 use Rattle.hierarchy.specs.Walks.{Translation, height_of, owned_by, holds_in, capable_in}
 use Rattle.process.specs.Calls.{fork_of, below, entered, with_child, clone_of, unshare_of, setns_of}

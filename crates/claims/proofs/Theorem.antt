@@ -10,7 +10,7 @@ use Rattle.idmap.specs.declared.Translated.TheVariants.{Id, Unmapped}
 use Rattle.idmap.proofs.Translation.{two_answers}
 use Rattle.records.specs.declared.Kind.{Kind}
 use Rattle.tables.specs.Tables.{State, initial_tables}
-use Rattle.tables.specs.Find.{process_named, namespace_named, caller_named}
+use Rattle.tables.specs.Find.{namespace_named, caller_named}
 use Rattle.tables.specs.Reply.{Reply, id, unmapped}
 use Rattle.hierarchy.specs.Walks.{Translation}
 use Rattle.credentials.specs.Calls.{turned, translated, translate_reply}

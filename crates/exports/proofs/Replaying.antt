@@ -9,7 +9,7 @@ use Rattle.prelude.specs.Parts.{put_at}
 use Rattle.prelude.specs.Lists.{tab}
 use Rattle.prelude.proofs.Made.{tab_same}
 use Rattle.records.specs.Records.{max_groups}
-use Rattle.tables.specs.Reply.{Reply, ids, reply_of, is_refused}
+use Rattle.tables.specs.Reply.{Reply, reply_of, is_refused}
 use Rattle.tables.specs.declared.answer.Answer.{Answer}
 use Rattle.tables.specs.declared.answer.Answer.TheVariants.{Refused, Done, Child, ChildIn, NewNamespace, Yes, No, Length, Id, Unmapped}
 use Rattle.credentials.specs.declared.own.OwnIds.{OwnIds}

@@ -37,7 +37,7 @@ unfoldable pub good_of : List Line → Bool
 good_of [] = true
 good_of (l ∷ ls) = bounded_of l && (all_apart l ls && good_of ls)
 
--- ---- the same in document 01's words, of each line and of every pair; that goodOf is this is a law
+-- ---- the same in document 01's words, of each line and of every pair; that `good_of` is this is a law
 -- x is one of the c IDs from a on
 abbrev pub Within : ℕ → ℕ → ℕ → Type 0
 Within x a c = (a ≤ x) × (x < a + c)

@@ -20,12 +20,12 @@ one_has (l ∷ ls) x y = (has l x && has l y) || one_has ls x y
 unfoldable pub lies_whole : List Line → ℕ → ℕ → Bool
 lies_whole ls start count = nat_lt 0 count && one_has ls start (start + count - 1)
 
--- ---- what liesWhole says of each single ID of the range, by a law
+-- ---- what `lies_whole` says of each single ID of the range, by a law
 -- a line holds the ID
 abbrev pub HasLine : List Line → ℕ → Type 0
 HasLine ls x = (i : ℕ) × (i < length ls) × Within x (slice_index_or ls i no_line).inside (slice_index_or ls i no_line).count
 
--- ---- what the code does. NOT to be believed: that of a good map it is liesWhole is proved (`whole_by_reach_lem`)
+-- ---- what the code does. NOT to be believed: that of a good map it is `lies_whole` is proved (`whole_by_reach_lem`)
 -- the line of the first ID, a 32-bit number, reaches over all of them
 unfoldable pub whole_by_reach : List Line → ℕ → ℕ → Bool
 whole_by_reach ls start count = nat_lt start (2 ^ 32) && (nat_lt 0 count && nat_le count (reach_of ls start))

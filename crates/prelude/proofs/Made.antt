@@ -38,7 +38,7 @@ pub tab_all : {A : Type 0} (l : List A) (d : A) (n : ℕ) → length l ≡ n →
 tab_all l d n e = tab_take l d n 0 (omega arith) ∙ take_all n l (omega arith)
 
 -- ---- a mapped list
--- what owning an array of structs tells of its length, in a struct's field: `search (needs, length_mapped)` finds it
+-- what owning an array of structs tells of its length, in a struct's field: `search (rules, length_mapped)` finds it
 pub length_mapped : {X Y : Type 0} (f : X → Y) (l : List X) (n : ℕ) → length (map f l) ≡ n → length l ≡ n
 length_mapped f l n e = sym (length-map l f) ∙ e
 

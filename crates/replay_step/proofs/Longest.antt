@@ -1,5 +1,5 @@
 -- A buffer of the longest text serves for any longer one. Assumes nothing.
-use Prim.Native.Nat.{ℕ, ◌+◌, ◌*◌, ◌-◌, ◌≤◌, min}
+use Prim.Native.Nat.{ℕ, ◌+◌, ◌*◌, ◌≤◌, min}
 use mathlib.Core.Path.{◌≡◌, refl, sym, ap, ◌∙◌}
 use mathlib.Core.Bool.{Bool, true, false}
 use mathlib.Core.List.{List, [], ◌∷◌, ◌++◌, map, append_assoc, append-nil}
@@ -28,7 +28,6 @@ use Rattle.calls.specs.Calls.{Step, answer_by}
 use Rattle.journal.specs.declared.layout.Lent.TheVariants.{Buffer}
 use Rattle.journal.specs.Layout.{form_of}
 use Rattle.journal.specs.declared.read.Record.{Record}
-use Rattle.journal.specs.declared.read.Read.TheVariants as read
 use Rattle.journal.specs.Reading.{ids_at}
 use Rattle.journal.proofs.Records.{nothing_buffer, text_buffer, groups_buffer}
 use Rattle.replay_step.specs.Replay.{max_read, replay_of, FewLines, SameAnswer}
@@ -55,7 +54,7 @@ unfolding setting_text
 setting_short true = omega arith
 setting_short false = omega arith
 
--- ---- a text is read into two buffers, of which the one is the other's beginning or has maxRead bytes
+-- ---- a text is read into two buffers, of which the one is the other's beginning or has max_read bytes
 bytes_same : (a b : ℕ) → bytes a ≡ bytes b → a ≡ b
 bytes_same a b e = cc
 

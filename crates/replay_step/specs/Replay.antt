@@ -46,8 +46,8 @@ Unchanged (Stopped at why) entry exit = exit ≡ entry
 abbrev pub FewLines : State → Type 0
 FewLines s = (k : Kind) (n : ℕ) → length (lines_of (map_in k (namespace_at s n))) ≤ max_lines
 
--- a call is answered as with the whole buffer that its record says: no text is longer than maxRead, so it fits the one
--- exactly where it fits the other. `same_answer` of proofs/Longest.antt proves it of every lent buffer of maxRead bytes
+-- a call is answered as with the whole buffer that its record says: no text is longer than max_read, so it fits the one
+-- exactly where it fits the other. `same_answer` of proofs/Longest.antt proves it of every lent buffer of max_read bytes
 pub record SameAnswer (s : State) (l : List ℕ) (r : Record) (buffer : List ℕ) : Type 0 where
   pub reply : (replay_of s l (Found r) buffer).reply ≡ (quick answer_of s (request_at l r)).reply
   pub tables : (replay_of s l (Found r) buffer).tables ≡ (quick answer_of s (request_at l r)).tables

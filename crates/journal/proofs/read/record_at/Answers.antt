@@ -1,6 +1,5 @@
 -- `journal::read::record_at` meets its contract: each test has its law. Assumes nothing.
-use Rattle.std.proofs.Common.{arith}
-use Rattle.journal.proofs.Records.{offsets, at_cut_body, at_empty, body_long, at_record}
+use Rattle.journal.proofs.Records.{offsets, at_cut_body, at_empty, at_record}
 use Rattle.journal.proofs.read.record_at.Goals as goal
 
 pub returns-then-journal-at : goal.returns-then-journal-at
