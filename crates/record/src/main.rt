@@ -6,6 +6,8 @@ use crate::lines::{Recorded, Stop};
 use journal::{MAX_RECORD, VERSION};
 use script::lines::{MAX_LINE, MAX_LIST, lengthen};
 use script::output;
+use std::io;
+use std::io::{Read, Write};
 
 mod lines;
 mod report;
@@ -15,6 +17,9 @@ const FULL: usize = 65536;
 
 // The room for output: the longest record fits behind those that are gathered.
 const OUT_ROOM: usize = FULL + MAX_RECORD;
+
+// The most bytes that one read brings.
+const PIECE: usize = 65536;
 
 // The turns of a loop over the input are counted, since nothing says that it ends. As many never come.
 const MOST_TURNS: u64 = 18446744073709551615;
@@ -30,149 +35,180 @@ struct Progress {
 }
 
 // Makes room for a record, and answers how much of the output buffer is in use then.
-fn make_room(out: &[u8], at: usize) -> usize {
+fn make_room<W: Write>(to: &mut W, out: &[u8], at: usize) -> io::Result<usize> {
     if at < FULL {
-        return at;
+        return Ok(at);
     }
-    output::flush(out, at);
-    0
+    output::flush(to, out, at)?;
+    Ok(0)
 }
 
 // Writes what is gathered. There is nothing more to do then.
-fn stop(out: &[u8], at: usize) -> Progress {
-    output::flush(out, at);
-    Progress {
+fn stop<W: Write>(to: &mut W, out: &[u8], at: usize) -> io::Result<Progress> {
+    output::flush(to, out, at)?;
+    Ok(Progress {
         have: 0,
         at: 0,
         number: 0,
         going: false,
-    }
+    })
 }
 
-fn stop_at(out: &[u8], at: usize, number: u64, why: Stop) -> Progress {
-    let p = stop(out, at);
-    report::report(number, why);
-    p
+fn stop_at<W: Write, E: Write>(
+    to: &mut W,
+    errors: &mut E,
+    out: &[u8],
+    at: usize,
+    number: u64,
+    why: Stop,
+) -> io::Result<Progress> {
+    let p = stop(to, out, at)?;
+    report::report(errors, number, why)?;
+    Ok(p)
 }
 
-fn end_line(
+fn end_line<W: Write, E: Write>(
+    to: &mut W,
+    errors: &mut E,
     line: &[u8],
     p: Progress,
     scratch: &mut [u8],
     ids: &mut [u32; MAX_LIST],
     out: &mut [u8],
-) -> Progress {
+) -> io::Result<Progress> {
     let number = p.number;
-    let at = make_room(out, p.at);
+    let at = make_room(to, out, p.at)?;
     match lines::record_line(line, p.have, scratch, ids, out, at) {
-        Recorded::Length(n) => Progress {
+        Recorded::Length(n) => Ok(Progress {
             have: 0,
-            at: std::num::wrapping_add_usize(at, n),
-            number: std::num::wrapping_add_u64(number, 1),
+            at: at.wrapping_add(n),
+            number: number.wrapping_add(1),
             going: true,
-        },
-        Recorded::Stopped(why) => stop_at(out, at, number, why),
+        }),
+        Recorded::Stopped(why) => stop_at(to, errors, out, at, number, why),
     }
 }
 
 // Takes a byte of the input: a newline ends the line.
-fn take_byte(
+fn take_byte<W: Write, E: Write>(
+    to: &mut W,
+    errors: &mut E,
     b: u8,
     line: &mut [u8],
     p: Progress,
     scratch: &mut [u8],
     ids: &mut [u32; MAX_LIST],
     out: &mut [u8],
-) -> Progress {
+) -> io::Result<Progress> {
     if b == b'\n' {
-        return end_line(line, p, scratch, ids, out);
+        return end_line(to, errors, line, p, scratch, ids, out);
     }
-    Progress {
+    Ok(Progress {
         have: lengthen(line, p.have, b),
         at: p.at,
         number: p.number,
         going: true,
-    }
+    })
 }
 
 // Takes a piece of the input, whose first line may have begun in the piece before it.
-fn take(
+fn take<W: Write, E: Write>(
+    to: &mut W,
+    errors: &mut E,
     piece: &[u8],
     line: &mut [u8],
     from: Progress,
     scratch: &mut [u8],
     ids: &mut [u32; MAX_LIST],
     out: &mut [u8],
-) -> Progress {
+) -> io::Result<Progress> {
     let mut p = from;
-    let mut i: usize = 0;
-    while i < piece.len() {
-        let b = piece[i];
-        p = take_byte(b, line, p, scratch, ids, out);
+    for b in piece {
+        p = take_byte(to, errors, *b, line, p, scratch, ids, out)?;
         if !p.going {
-            return p;
+            return Ok(p);
         }
-        i += 1;
     }
-    output::flush(out, p.at);
+    output::flush(to, out, p.at)?;
     p.at = 0;
-    p
+    Ok(p)
 }
 
 // The input's end: its last line may lack a newline.
-fn finish(
+fn finish<W: Write, E: Write>(
+    to: &mut W,
+    errors: &mut E,
     line: &[u8],
     p: Progress,
     scratch: &mut [u8],
     ids: &mut [u32; MAX_LIST],
     out: &mut [u8],
-) -> Progress {
+) -> io::Result<Progress> {
     if p.have == 0 {
-        return stop(out, p.at);
+        return stop(to, out, p.at);
     }
-    let last = end_line(line, p, scratch, ids, out);
-    stop(out, last.at)
+    let last = end_line(to, errors, line, p, scratch, ids, out)?;
+    stop(to, out, last.at)
 }
 
 // One read of the input, and the lines that it completes.
-fn read_once(
+fn read_once<R: Read, W: Write, E: Write>(
+    from: &mut R,
+    to: &mut W,
+    errors: &mut E,
     line: &mut [u8],
     p: Progress,
     scratch: &mut [u8],
     ids: &mut [u32; MAX_LIST],
     out: &mut [u8],
-) -> Progress {
-    let mut piece = io::large_buffer();
-    let got = libc::read(libc::STDIN_FILENO, &mut piece);
-    if got <= 0 {
-        return finish(line, p, scratch, ids, out);
+) -> io::Result<Progress> {
+    let mut piece = [0u8; PIECE];
+    let n = from.read(&mut piece)?;
+    if n == 0 {
+        return finish(to, errors, line, p, scratch, ids, out);
     }
-    let n = io::count(got, &piece);
-    take(&piece[..n], line, p, scratch, ids, out)
+    take(to, errors, &piece[..n], line, p, scratch, ids, out)
 }
 
 // Reads the input to its end or to a stop.
-fn record(line: &mut [u8], scratch: &mut [u8], ids: &mut [u32; MAX_LIST], out: &mut [u8]) {
+fn record<R: Read, W: Write, E: Write>(
+    from: &mut R,
+    to: &mut W,
+    errors: &mut E,
+    line: &mut [u8],
+    scratch: &mut [u8],
+    ids: &mut [u32; MAX_LIST],
+    out: &mut [u8],
+) -> io::Result<()> {
     let mut p = Progress {
         have: 0,
-        at: output::put_byte(out, 0, VERSION),
+        at: output::put_byte(to, out, 0, VERSION)?,
         number: 1,
         going: true,
     };
     let mut turns = MOST_TURNS;
     while turns > 0 {
-        p = read_once(line, p, scratch, ids, out);
+        p = read_once(from, to, errors, line, p, scratch, ids, out)?;
         if !p.going {
-            return;
+            return Ok(());
         }
         turns -= 1;
     }
+    Ok(())
 }
 
-fn main() {
+fn main(rt: HostRuntime) -> io::Result<()> {
     let mut line = [0u8; MAX_LINE];
     let mut scratch = [0u8; MAX_LINE];
     let mut ids = [0u32; MAX_LIST];
     let mut out = [0u8; OUT_ROOM];
-    record(&mut line, &mut scratch, &mut ids, &mut out);
+    record(
+        &mut rt.stdin(),
+        &mut rt.stdout(),
+        &mut rt.stderr(),
+        &mut line,
+        &mut scratch,
+        &mut ids,
+        &mut out,
+    )
 }

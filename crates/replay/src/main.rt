@@ -5,6 +5,8 @@ use crate::window::{Place, WINDOW_ROOM};
 use journal::MAX_IDS;
 use journal::read::{Read, Stop};
 use replay_step::MAX_READ;
+use std::io;
+use std::io::Write;
 use tables::{TABLES_WIDTH, Tables};
 
 mod run;
@@ -37,52 +39,65 @@ enum Turn {
 }
 
 // One read of the input, and the records that it completes.
-fn read_once(
+fn read_once<R: io::Read, W: Write>(
+    from: &mut R,
+    to: &mut W,
     t: &mut Tables,
     window: &mut [u8],
     p: Place,
     list: &mut [u32; MAX_IDS],
     buffer: &mut [u8; MAX_READ],
     out: &mut [u8],
-) -> Turn {
-    let q = window::read_on(window, p);
+) -> io::Result<Turn> {
+    let q = window::read_on(from, window, p)?;
     let journal = window::held(window, q);
-    let left = run::replay_whole(t, journal, q.at, list, buffer, out);
+    let left = run::replay_whole(to, t, journal, q.at, list, buffer, out)?;
     let read = left.read;
     if !q.ended {
         if wants_more(read) {
-            return Turn::On(window::at_record(q, left.at));
+            return Ok(Turn::On(window::at_record(q, left.at)));
         }
     }
-    stops::print_end(read, q.dropped, out);
-    Turn::Done
+    stops::print_end(to, read, q.dropped, out)?;
+    Ok(Turn::Done)
 }
 
 // Reads the input to its end or to a stop.
-fn serve(
+fn serve<R: io::Read, W: Write>(
+    from: &mut R,
+    to: &mut W,
     t: &mut Tables,
     window: &mut [u8],
     list: &mut [u32; MAX_IDS],
     buffer: &mut [u8; MAX_READ],
     out: &mut [u8],
-) {
+) -> io::Result<()> {
     let mut p = window::START;
     let mut turns = MOST_TURNS;
     while turns > 0 {
-        let Turn::On(q) = read_once(t, window, p, list, buffer, out) else {
-            return;
+        let Turn::On(q) = read_once(from, to, t, window, p, list, buffer, out)? else {
+            return Ok(());
         };
         p = q;
         turns -= 1;
     }
+    Ok(())
 }
 
-fn main() {
+fn main(rt: HostRuntime) -> io::Result<()> {
     let mut t = [0u64; TABLES_WIDTH];
     tables::initial::initial(&mut t);
     let mut window = [0u8; WINDOW_ROOM];
     let mut list = [0u32; MAX_IDS];
     let mut buffer = [0u8; MAX_READ];
     let mut out = [0u8; OUT_ROOM];
-    serve(&mut t, &mut window, &mut list, &mut buffer, &mut out);
+    serve(
+        &mut rt.stdin(),
+        &mut rt.stdout(),
+        &mut t,
+        &mut window,
+        &mut list,
+        &mut buffer,
+        &mut out,
+    )
 }

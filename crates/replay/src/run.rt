@@ -4,6 +4,8 @@ use journal::MAX_IDS;
 use journal::read::Read;
 use replay_step::{MAX_READ, Replayed};
 use script::{answers, output};
+use std::io;
+use std::io::Write;
 use tables::Tables;
 
 // Makes the call of a record.
@@ -25,14 +27,15 @@ pub struct Left {
 }
 
 // Makes the calls of the whole records from a place on, and prints their answers.
-pub fn replay_whole(
+pub fn replay_whole<W: Write>(
+    to: &mut W,
     t: &mut Tables,
     journal: &[u8],
     from: usize,
     list: &mut [u32; MAX_IDS],
     buffer: &mut [u8; MAX_READ],
     out: &mut [u8],
-) -> Left {
+) -> io::Result<Left> {
     let mut at = from;
     let mut used: usize = 0;
     let mut turns = MOST_TURNS;
@@ -41,16 +44,16 @@ pub fn replay_whole(
         let read = made.read;
         let response = made.response;
         let Read::Found(record) = read else {
-            output::flush(out, used);
-            return Left { at: at, read: read };
+            output::flush(to, out, used)?;
+            return Ok(Left { at: at, read: read });
         };
-        used = answers::put_answer_and_text(out, used, response, buffer);
+        used = answers::put_answer_and_text(to, out, used, response, buffer)?;
         at = record.next;
         turns -= 1;
     }
-    output::flush(out, used);
-    Left {
+    output::flush(to, out, used)?;
+    Ok(Left {
         at: at,
         read: Read::End,
-    }
+    })
 }

@@ -2,6 +2,8 @@
 ghost use Rattle.std.specs.Prelude.{◌≤◌, length};
 
 use journal::MAX_RECORD;
+use std::io;
+use std::io::Read;
 
 // The room for it. The version byte and two of the longest records fit.
 pub const WINDOW_ROOM: usize = 1 + 2 * MAX_RECORD;
@@ -70,29 +72,28 @@ fn drop_replayed(window: &mut [u8], p: Place) -> Place {
     Place {
         at: 1,
         filled: end,
-        dropped: std::num::wrapping_add_u64(p.dropped, (at - 1) as u64),
+        dropped: p.dropped.wrapping_add((at - 1) as u64),
         ended: false,
     }
 }
 
 // Reads as much more of the input as there is room for.
-fn read_behind(window: &mut [u8], p: Place) -> Place {
-    let from = p.filled;
-    if from > window.len() {
-        return p;
+fn read_behind<R: Read>(from: &mut R, window: &mut [u8], p: Place) -> io::Result<Place> {
+    let filled = p.filled;
+    if filled > window.len() {
+        return Ok(p);
     }
-    let got = libc::read(libc::STDIN_FILENO, &mut window[from..]);
-    let n = io::count(got, &window[from..]);
-    Place {
+    let n = from.read(&mut window[filled..])?;
+    Ok(Place {
         at: p.at,
-        filled: from + n,
+        filled: filled + n,
         dropped: p.dropped,
         ended: n == 0,
-    }
+    })
 }
 
 // Reads on where no whole record is left in the window.
-pub fn read_on(window: &mut [u8], p: Place) -> Place {
+pub fn read_on<R: Read>(from: &mut R, window: &mut [u8], p: Place) -> io::Result<Place> {
     let q = drop_replayed(window, p);
-    read_behind(window, q)
+    read_behind(from, window, q)
 }

@@ -1,77 +1,89 @@
 // Output, gathered in a lent buffer that is written when it is full. Each function is told how much of the buffer is in
 // use, and answers how much is then.
-use libc::STDOUT_FILENO;
+use std::io;
+use std::io::Write;
 
-// Writes the first `n` bytes of a buffer to a descriptor.
-pub fn write_first(descriptor: i32, out: &[u8], n: usize) {
+// Writes the first `n` bytes of a buffer.
+pub fn write_first<W: Write>(to: &mut W, out: &[u8], n: usize) -> io::Result<()> {
     if n <= out.len() {
-        io::write_all(descriptor, &out[..n]);
+        to.write_all(&out[..n])?;
     }
+    Ok(())
 }
 
-pub fn flush(out: &[u8], at: usize) {
-    write_first(STDOUT_FILENO, out, at);
+pub fn flush<W: Write>(to: &mut W, out: &[u8], at: usize) -> io::Result<()> {
+    write_first(to, out, at)?;
+    to.flush()
 }
 
-pub fn put_byte(out: &mut [u8], at: usize, b: u8) -> usize {
+pub fn put_byte<W: Write>(to: &mut W, out: &mut [u8], at: usize, b: u8) -> io::Result<usize> {
     if at < out.len() {
         out[at] = b;
-        return at + 1;
+        return Ok(at + 1);
     }
-    flush(out, at);
+    flush(to, out, at)?;
     if out.len() == 0 {
-        return 0;
+        return Ok(0);
     }
     out[0] = b;
-    1
+    Ok(1)
 }
 
-pub fn put_bytes(out: &mut [u8], at: usize, text: &[u8]) -> usize {
+pub fn put_bytes<W: Write>(
+    to: &mut W,
+    out: &mut [u8],
+    at: usize,
+    text: &[u8],
+) -> io::Result<usize> {
     let mut end = at;
-    let mut i: usize = 0;
-    while i < text.len() {
-        let b = text[i];
-        end = put_byte(out, end, b);
-        i += 1;
+    for b in text {
+        end = put_byte(to, out, end, *b)?;
     }
-    end
+    Ok(end)
 }
 
 // A number after a space.
-pub fn put_number(out: &mut [u8], at: usize, n: u64) -> usize {
-    let mut digits = [0u8; 20];
-    let k = io::decimal(n, &mut digits);
-    let end = put_byte(out, at, b' ');
-    put_bytes(out, end, &digits[..k])
+pub fn put_number<W: Write>(to: &mut W, out: &mut [u8], at: usize, n: u64) -> io::Result<usize> {
+    let mut digits = itoa::Buffer::new();
+    let end = put_byte(to, out, at, b' ')?;
+    put_bytes(to, out, end, digits.format(n).as_bytes())
+}
+
+// A hexadecimal digit, in lower case.
+fn digit(n: u8) -> u8
+    requires { n < 16 }
+{
+    if n < 10 { b'0' + n } else { b'a' - 10 + n }
 }
 
 // A byte outside of the printed ones, by its number.
-fn put_hexadecimal(out: &mut [u8], at: usize, b: u8) -> usize {
-    let mut digits = [0u8; 16];
-    let k = io::hex(b as u64, 2, &mut digits);
-    let end = put_bytes(out, at, b"\\x");
-    put_bytes(out, end, &digits[..k])
+fn put_hexadecimal<W: Write>(to: &mut W, out: &mut [u8], at: usize, b: u8) -> io::Result<usize> {
+    let end = put_bytes(to, out, at, b"\\x")?;
+    let digits = [digit(b / 16), digit(b % 16)];
+    put_bytes(to, out, end, &digits)
 }
 
-fn put_escaped(out: &mut [u8], at: usize, b: u8) -> usize {
+fn put_escaped<W: Write>(to: &mut W, out: &mut [u8], at: usize, b: u8) -> io::Result<usize> {
     match b {
-        b'\n' => put_bytes(out, at, b"\\n"),
-        b'\t' => put_bytes(out, at, b"\\t"),
-        b'"' => put_bytes(out, at, b"\\\""),
-        b'\\' => put_bytes(out, at, b"\\\\"),
-        32..=126 => put_byte(out, at, b),
-        _ => put_hexadecimal(out, at, b),
+        b'\n' => put_bytes(to, out, at, b"\\n"),
+        b'\t' => put_bytes(to, out, at, b"\\t"),
+        b'"' => put_bytes(to, out, at, b"\\\""),
+        b'\\' => put_bytes(to, out, at, b"\\\\"),
+        32..=126 => put_byte(to, out, at, b),
+        _ => put_hexadecimal(to, out, at, b),
     }
 }
 
 // A text in quotes, after a space.
-pub fn put_quoted(out: &mut [u8], at: usize, text: &[u8]) -> usize {
-    let mut end = put_bytes(out, at, b" \"");
-    let mut i: usize = 0;
-    while i < text.len() {
-        let b = text[i];
-        end = put_escaped(out, end, b);
-        i += 1;
+pub fn put_quoted<W: Write>(
+    to: &mut W,
+    out: &mut [u8],
+    at: usize,
+    text: &[u8],
+) -> io::Result<usize> {
+    let mut end = put_bytes(to, out, at, b" \"")?;
+    for b in text {
+        end = put_escaped(to, out, end, *b)?;
     }
-    put_byte(out, end, b'"')
+    put_byte(to, out, end, b'"')
 }
