@@ -122,13 +122,11 @@ fn serve<R: Read, W: Write>(
     out: &mut [u8],
 ) -> io::Result<()> {
     let mut have: usize = 0;
-    let mut turns: u64 = 18446744073709551615;
-    while turns > 0 {
+    for _ in 0..u64::MAX {
         let Brought::Have(n) = read_once(from, to, t, line, have, scratch, ids, out)? else {
             return finish(to, t, line, have, scratch, ids, out);
         };
         have = n;
-        turns -= 1;
     }
     Ok(())
 }

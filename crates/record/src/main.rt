@@ -186,13 +186,11 @@ fn record<R: Read, W: Write, E: Write>(
         number: 1,
         going: true,
     };
-    let mut turns = MOST_TURNS;
-    while turns > 0 {
+    for _ in 0..MOST_TURNS {
         p = read_once(from, to, errors, line, p, scratch, ids, out)?;
         if !p.going {
             return Ok(());
         }
-        turns -= 1;
     }
     Ok(())
 }

@@ -73,13 +73,11 @@ fn serve<R: io::Read, W: Write>(
     out: &mut [u8],
 ) -> io::Result<()> {
     let mut p = window::START;
-    let mut turns = MOST_TURNS;
-    while turns > 0 {
+    for _ in 0..MOST_TURNS {
         let Turn::On(q) = read_once(from, to, t, window, p, list, buffer, out)? else {
             return Ok(());
         };
         p = q;
-        turns -= 1;
     }
     Ok(())
 }

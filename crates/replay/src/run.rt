@@ -38,8 +38,7 @@ pub fn replay_whole<W: Write>(
 ) -> io::Result<Left> {
     let mut at = from;
     let mut used: usize = 0;
-    let mut turns = MOST_TURNS;
-    while turns > 0 {
+    for _ in 0..MOST_TURNS {
         let made = make(t, journal, at, list, buffer);
         let read = made.read;
         let response = made.response;
@@ -49,7 +48,6 @@ pub fn replay_whole<W: Write>(
         };
         used = answers::put_answer_and_text(to, out, used, response, buffer)?;
         at = record.next;
-        turns -= 1;
     }
     output::flush(to, out, used)?;
     Ok(Left {

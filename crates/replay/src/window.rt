@@ -49,11 +49,9 @@ fn move_down(window: &mut [u8], from: usize, end: usize) -> usize
     requires { (1 ≤ from) × (end ≤ length window.old) }
 {
     let mut to: usize = 1;
-    let mut i = from;
-    while i < end {
+    for i in from..end {
         window[to] = window[i];
         to += 1;
-        i += 1;
     }
     to
 }

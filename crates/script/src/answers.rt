@@ -38,14 +38,12 @@ fn put_groups<W: Write>(
     let ids = groups.ids;
     let count = groups.count;
     let mut end = at;
-    let mut i: usize = 0;
-    while i < MAX_GROUPS {
+    for i in 0..MAX_GROUPS {
         if count <= i as u64 {
             return Ok(end);
         }
         let id = ids[i];
         end = put_number(to, out, end, id as u64)?;
-        i += 1;
     }
     Ok(end)
 }

@@ -131,8 +131,7 @@ pub enum Arguments {
 // The arguments from `from` on, with the numbers, four at most, put into the lent array.
 pub fn read_arguments(line: &[u8], from: usize, values: &mut [u64; 4]) -> Arguments {
     let mut at = from;
-    let mut n: usize = 0;
-    while n < 4 {
+    for n in 0..4 {
         match tokens::next_token(line, at) {
             Next::Number(value, end) => {
                 values[n] = value;
@@ -148,7 +147,6 @@ pub fn read_arguments(line: &[u8], from: usize, values: &mut [u64; 4]) -> Argume
                 return Arguments::Bad;
             }
         }
-        n += 1;
     }
     match tokens::next_token(line, at) {
         Next::End => Arguments::Numbers(4),

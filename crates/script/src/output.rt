@@ -49,17 +49,12 @@ pub fn put_number<W: Write>(to: &mut W, out: &mut [u8], at: usize, n: u64) -> io
     put_bytes(to, out, end, digits.format(n).as_bytes())
 }
 
-// A hexadecimal digit, in lower case.
-fn digit(n: u8) -> u8
-    requires { n < 16 }
-{
-    if n < 10 { b'0' + n } else { b'a' - 10 + n }
-}
+const DIGITS: [u8; 16] = *b"0123456789abcdef";
 
 // A byte outside of the printed ones, by its number.
 fn put_hexadecimal<W: Write>(to: &mut W, out: &mut [u8], at: usize, b: u8) -> io::Result<usize> {
     let end = put_bytes(to, out, at, b"\\x")?;
-    let digits = [digit(b / 16), digit(b % 16)];
+    let digits = [DIGITS[(b / 16) as usize], DIGITS[(b % 16) as usize]];
     put_bytes(to, out, end, &digits)
 }
 

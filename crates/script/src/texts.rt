@@ -75,8 +75,7 @@ fn next_byte(line: &[u8], from: usize) -> Byte {
 // Reads the text whose first byte stands at `from`, and which ends the line, into the lent buffer.
 pub fn read_text(line: &[u8], from: usize, out: &mut [u8]) -> Text {
     let mut at = from;
-    let mut n: usize = 0;
-    while n < out.len() {
+    for n in 0..out.len() {
         match next_byte(line, at) {
             Byte::At(b, after) => {
                 out[n] = b;
@@ -89,7 +88,6 @@ pub fn read_text(line: &[u8], from: usize, out: &mut [u8]) -> Text {
                 return Text::Bad;
             }
         }
-        n += 1;
     }
     Text::Bad
 }

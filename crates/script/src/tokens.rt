@@ -8,12 +8,10 @@ pub const LARGEST_32: u64 = 4294967295;
 pub fn skip_spaces(line: &[u8], from: usize) -> usize
     ensures { result ≤ length line.now }
 {
-    let mut i = from;
-    while i < line.len() {
+    for i in from..line.len() {
         if line[i] != b' ' {
             return i;
         }
-        i += 1;
     }
     line.len()
 }
@@ -24,14 +22,12 @@ fn word_end(line: &[u8], from: usize) -> usize
     ensures lower_bound { from ≤ result }
     ensures upper_bound { result ≤ length line.now }
 {
-    let mut i = from;
-    while i < line.len() {
+    for i in from..line.len() {
         if line[i] == b' ' {
             return i;
         }
-        i += 1;
     }
-    i
+    line.len()
 }
 
 // Where a word stands: from `start` on, up to `end`. At the line's end both are its length.
@@ -54,17 +50,7 @@ pub fn word_at(line: &[u8], from: usize) -> Word
 }
 
 pub fn equals(a: &[u8], b: &[u8]) -> bool {
-    if a.len() != b.len() {
-        return false;
-    }
-    let mut i: usize = 0;
-    while i < a.len() {
-        if a[i] != b[i] {
-            return false;
-        }
-        i += 1;
-    }
-    true
+    a == b
 }
 
 #[derive(Clone, Copy)]
@@ -85,9 +71,8 @@ pub fn digit(b: u8) -> u64 {
 
 fn decimal(digits: &[u8]) -> Number {
     let mut value: u64 = 0;
-    let mut i: usize = 0;
-    while i < digits.len() {
-        let d = digit(digits[i]);
+    for b in digits {
+        let d = digit(*b);
         if d > 9 {
             return Number::Bad;
         }
@@ -98,16 +83,14 @@ fn decimal(digits: &[u8]) -> Number {
             return Number::Bad;
         }
         value = value * 10 + d;
-        i += 1;
     }
     Number::Value(value)
 }
 
 fn hexadecimal(digits: &[u8]) -> Number {
     let mut value: u64 = 0;
-    let mut i: usize = 0;
-    while i < digits.len() {
-        let d = digit(digits[i]);
+    for b in digits {
+        let d = digit(*b);
         if d > 15 {
             return Number::Bad;
         }
@@ -115,7 +98,6 @@ fn hexadecimal(digits: &[u8]) -> Number {
             return Number::Bad;
         }
         value = value * 16 + d;
-        i += 1;
     }
     Number::Value(value)
 }

@@ -1,2 +1,0 @@
--- The shared laws of `script`.
-pub mod Slices
