@@ -5,7 +5,7 @@ use Rattle.idmap.specs.Line.{no_line}
 use Rattle.idmap.specs.Lookup.{reach_of}
 use Rattle.idmap.specs.Good.{Within}
 
--- the ID is on the line's inside. For a line of a good map and a 32-bit ID this is `inRange`: `interval_test` of
+-- the ID is on the line's inside. For a line of a good map and a 32-bit ID this is `in_range`: `interval_test` of
 -- proofs/Interval.antt
 abbrev pub has : Line → ℕ → Bool
 has l x = nat_le l.inside x && nat_lt x (l.inside + l.count)

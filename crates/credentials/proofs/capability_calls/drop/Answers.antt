@@ -1,5 +1,5 @@
 -- `credentials::capability_calls::drop` meets its contract.
--- At `with_sets_requires` and `returns-4` the laws are applied by hand: `search` breaks off there. Assumes nothing.
+-- At `returns` the law is applied by hand: `search` breaks off there. Assumes nothing.
 use Rattle.credentials.proofs.Capability.{dropping, drop_done}
 use Rattle.credentials.proofs.capability_calls.drop.Goals as goal
 

@@ -1,5 +1,5 @@
 -- `credentials::groups::setgroups` meets its contract.
--- At `returns-6` and `returns-7` the law is applied by hand: `search` breaks off there. Assumes nothing.
+-- At `returns-then-not-listed` and `returns` the law is applied by hand: `search` breaks off there. Assumes nothing.
 use Rattle.prelude.proofs.Tests.{not_taken, not_left}
 use Rattle.credentials.proofs.GroupLists.{grouping, groups_unmapped, groups_done}
 use Rattle.credentials.proofs.groups.setgroups.Goals as goal

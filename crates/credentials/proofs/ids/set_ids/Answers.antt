@@ -1,5 +1,5 @@
 -- `credentials::ids::set_ids` meets its contract.
--- At `returns-5` and `returns-6` the law is applied by hand: `search` breaks off there. Assumes nothing.
+-- At `returns-then-not-permitted` and `returns` the law is applied by hand: `search` breaks off there. Assumes nothing.
 use Rattle.credentials.proofs.IdChanges.{changing, set_ids_denied, set_ids_done}
 use Rattle.credentials.proofs.ids.set_ids.Goals as goal
 
