@@ -4,7 +4,7 @@ use Rattle.std.proofs.Common.{◌≡◌, ℕ, zero, suc, ◌+◌, ◌-◌, ◌*�
 use mathlib.Core.Option.{Option, none, some}
 use lib.ListN.{get_or-append}
 use lib.Seq.{drop-append-le, drop-append-add, drop-length, get_or-append_seam}
-use borrow.Author.Tests.{eqb-false, lt-leb}
+use borrow.Author.Tests.{eqb-false}
 use Rattle.idmap.specs.declared.Line.{Line}
 use Rattle.map_reader.specs.declared.text.Seen.{Seen}
 use Rattle.map_reader.specs.declared.text.Number.{Number}
@@ -16,7 +16,7 @@ use Rattle.map_reader.specs.declared.text.LineRead.{LineRead}
 use Rattle.idmap.specs.Good.{no_id}
 use Rattle.idmap.specs.Text.{is_newline, is_blank, is_digit, pieces, numbers_of, three_of, line_of, text_lines}
 use Rattle.idmap.specs.Scan.{span, value, skipped}
-use Rattle.map_reader.specs.Scan.{byte_at, seen_at, ended, number_from, number_at, field_at, no_line_at, line_end, number_then, then_number, scan_line}
+use Rattle.map_reader.specs.Scan.{seen_at, ended, number_from, number_at, field_at, no_line_at, line_end, number_then, then_number, scan_line}
 use Rattle.prelude.proofs.Tests.{by_test, cond_elim}
 use Rattle.prelude.proofs.Made.{cons_first}
 use Rattle.prelude.specs.Lists.{cons_of, all_of}

@@ -1,7 +1,6 @@
 -- How many bytes the reader reads of a text: never more than there are, and all of a good one. Assumes nothing.
-use Rattle.std.proofs.Common.{◌≡◌, ℕ, zero, suc, ◌+◌, ◌<◌, ◌≤◌, cond, ◌&&◌, leb, List, [], ◌∷◌, length, drop, sym, refl, ap, ◌∙◌, arith, length-drop, leb-true}
+use Rattle.std.proofs.Common.{◌≡◌, ℕ, zero, suc, ◌+◌, ◌<◌, ◌≤◌, ◌&&◌, leb, List, [], ◌∷◌, length, drop, sym, refl, ap, ◌∙◌, arith, length-drop, leb-true}
 use mathlib.Core.Option.{Option, none, some, some-injective}
-use Rattle.prelude.specs.Lists.{cons_of}
 use Rattle.prelude.proofs.Tests.{by_test, both}
 use Rattle.prelude.proofs.Made.{some_none, cons_some}
 use Rattle.idmap.specs.declared.Line.{Line}

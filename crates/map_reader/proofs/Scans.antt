@@ -4,14 +4,13 @@ use Rattle.std.proofs.Common.{◌≡◌, ℕ, ◌+◌, ◌-◌, ◌*◌, ◌^◌
 use borrow.Author.Tests.{lt-leb}
 use Rattle.idmap.specs.declared.Line.{Line}
 use Rattle.map_reader.specs.declared.text.Seen.{Seen}
-use Rattle.map_reader.specs.declared.text.Number.{Number}
 use Rattle.map_reader.specs.declared.text.Number.TheVariants.{Value, NoNumber}
 use Rattle.map_reader.specs.declared.text.NumberRead.{NumberRead}
-use Rattle.map_reader.specs.declared.text.LineParsed.TheVariants.{Numbers, NoLine}
+use Rattle.map_reader.specs.declared.text.LineParsed.TheVariants.{Numbers}
 use Rattle.map_reader.specs.declared.text.LineRead.{LineRead}
 use Rattle.idmap.specs.Good.{no_id}
 use Rattle.idmap.specs.Text.{is_blank, is_digit}
-use Rattle.idmap.specs.Scan.{span, value, skipped}
+use Rattle.idmap.specs.Scan.{span, skipped}
 use Rattle.map_reader.specs.Scan.{byte_at, see_of, seen_at, no_number, ended, number_from, number_at, field_at, no_line_at, line_end, scan_line}
 use Rattle.prelude.proofs.Tests.{by_test, cond_elim, both}
 

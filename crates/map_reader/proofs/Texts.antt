@@ -9,7 +9,6 @@ use Rattle.idmap.specs.declared.Line.{Line}
 use Rattle.map_reader.specs.declared.text.LineParsed.{LineParsed}
 use Rattle.map_reader.specs.declared.text.LineParsed.TheVariants.{Numbers, NoLine}
 use Rattle.map_reader.specs.declared.text.LineRead.{LineRead}
-use Rattle.idmap.specs.declared.text.MapText.{MapText}
 use Rattle.map_reader.specs.declared.text.TextRead.{TextRead}
 use Rattle.idmap.specs.declared.text.Parsed.TheVariants.{Lines, Bad}
 use Rattle.idmap.specs.Line.{no_line}

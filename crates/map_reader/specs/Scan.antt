@@ -1,7 +1,7 @@
 -- How the reader goes over a text, and how many bytes it reads: what its inner functions answer, from a place on. That
 -- this is the text's meaning is proved from `idmap`'s specs/Text.antt, which alone is to be believed; `ReadOnce` says what is
 -- promised of the count. Assumes nothing.
-use Rattle.std.specs.Prelude.{◌≡◌, ℕ, zero, suc, ◌+◌, ◌-◌, ◌*◌, ◌≤◌, min, Bool, cond, List, [], ◌∷◌, length, drop, ◌==◌, nat_le, nat_lt, slice_index}
+use Rattle.std.specs.Prelude.{◌≡◌, ℕ, zero, suc, ◌+◌, ◌-◌, ◌*◌, ◌≤◌, min, cond, List, [], ◌∷◌, length, drop, ◌==◌, nat_le, nat_lt, slice_index}
 use Rattle.std.proofs.Math.Option.{none, some}
 use Rattle.idmap.specs.declared.Line.{Line}
 use Rattle.map_reader.specs.declared.text.Seen.{Seen}
@@ -14,7 +14,7 @@ use Rattle.map_reader.specs.declared.text.LineRead.{LineRead}
 use Rattle.map_reader.specs.declared.text.TextRead.{TextRead}
 use Rattle.idmap.specs.Good.{max_lines, no_id}
 use Rattle.idmap.specs.Scan.{skipped}
-use Rattle.idmap.specs.Text.{is_blank, is_digit, is_newline, map_lines, map_text}
+use Rattle.idmap.specs.Text.{is_digit, is_newline, map_lines, map_text}
 
 -- the byte at a place; the text's end is seen as a newline
 unfoldable pub byte_at : List ℕ → ℕ → ℕ

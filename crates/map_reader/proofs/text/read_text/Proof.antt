@@ -1,6 +1,6 @@
 -- `map_reader::text::read_text` meets its contract. The invariant: the lines so far, with those of the text from `bytes` on,
 -- are the text's lines, and the bytes so far, with those that are still to be read, are all that are read. Assumes nothing.
-use Rattle.std.proofs.Common.{◌≡◌, ◌-◌, ◌≤◌, length, drop, replicate, rules}
+use Rattle.std.proofs.Common.{◌≡◌, ◌-◌, ◌≤◌, length, drop, replicate}
 use Rattle.idmap.specs.Line.{no_line}
 use Rattle.idmap.specs.Good.{max_lines}
 use Rattle.idmap.specs.Text.{text_lines}
