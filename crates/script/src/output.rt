@@ -49,6 +49,7 @@ pub fn put_number<W: Write>(to: &mut W, out: &mut [u8], at: usize, n: u64) -> io
     put_bytes(to, out, end, digits.format(n).as_bytes())
 }
 
+// The hexadecimal digits, in lower case.
 const DIGITS: [u8; 16] = *b"0123456789abcdef";
 
 // A byte outside of the printed ones, by its number.
