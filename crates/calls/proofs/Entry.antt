@@ -1,4 +1,5 @@
 -- The entry point: each call's promise is the step's. Assumes nothing.
+use Rattle.std.specs.Prelude.{Option, Some, None}
 use mathlib.Core.Path.{◌≡◌, refl, sym, ap, ◌∙◌, subst}
 use mathlib.Core.Bool.{true}
 use mathlib.Core.List.{List, map}
@@ -13,8 +14,6 @@ use Rattle.records.specs.Records.{max_groups}
 use Rattle.tables.specs.declared.answer.Errno.{Errno}
 use Rattle.tables.specs.declared.answer.Answer.{Answer}
 use Rattle.tables.specs.declared.answer.Answer.TheVariants.{Refused, Done, Child, ChildIn, NewNamespace, Yes, No, Length, Id, Unmapped}
-use Rattle.tables.specs.declared.find.Found.{Found}
-use Rattle.tables.specs.declared.find.Found.TheVariants.{At, Nothing}
 use Rattle.tables.specs.Tables.{State, tables_of, process_at}
 use Rattle.tables.specs.Find.{caller_named}
 use Rattle.tables.specs.Reply.{Reply, reply_of, Outcome, is_refused, Promise, on_found}
@@ -57,9 +56,9 @@ groups_whole : (xs : List ℕ) → group_list xs ≡ group_list (take (group_lis
 unfolding group_list
 groups_whole xs = ap group_list (sym (take-append_seam xs (replicate (max_groups - length xs) 0)))
 
-found_whole : (f : Found) (x : OwnResult) (next : ℕ → OwnResult) → Whole (own_of x) → ((i : ℕ) → Whole (own_of (next i))) → Whole (own_of (on_found f x next))
-found_whole (At i) x next p q = q i
-found_whole Nothing x next p q = p
+found_whole : (f : Option ℕ) (x : OwnResult) (next : ℕ → OwnResult) → Whole (own_of x) → ((i : ℕ) → Whole (own_of (next i))) → Whole (own_of (on_found f x next))
+found_whole (Some i) x next p q = q i
+found_whole None x next p q = p
 
 own_whole : (by : Translation) (s : State) (c : ℕ) → Whole (own_of (own_ids_of by s c))
 unfolding own_ids_of seen_groups group_list

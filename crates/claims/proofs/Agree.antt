@@ -1,9 +1,9 @@
 -- How a store keeps the tables in agreement with what a history gives. Assumes nothing.
+use Rattle.std.specs.Prelude.{Option, Some}
 use Prim.Native.Nat.{ℕ, suc, ◌<◌}
 use mathlib.Core.Path.{◌≡◌, refl, sym, ap, ◌∙◌}
 use mathlib.Core.Bool.{Bool, true, cond}
 use mathlib.Core.List.{List}
-use mathlib.Core.Option.{Option}
 use lib.Dec.{eqb}
 use lib.ListN.{length, length-set}
 use borrow.Author.Tests.{eqb-true}
@@ -16,7 +16,6 @@ use Rattle.records.specs.declared.MapState.{MapState}
 use Rattle.records.specs.declared.MapState.TheVariants.{Unwritten, Written}
 use Rattle.records.specs.declared.IdMap.{IdMap}
 use Rattle.records.specs.Records.{map_in, lines_if, lines_of}
-use Rattle.tables.specs.declared.find.Found.TheVariants.{At}
 use Rattle.tables.specs.Tables.{State, process_at, namespace_at, put_process, put_namespace}
 use Rattle.tables.specs.Find.{caller_named}
 use Rattle.prelude.proofs.Tests.{by_test}
@@ -122,7 +121,7 @@ pub lines_agree : (s : State) (h : List Event) → Agreed s h → (k : Kind) (n 
 lines_agree s h a k n = sym (lines_of_lem (map_in k (namespace_at s n))) ∙ ap or_none (a.namespace_map k n)
 
 -- ---- the caller of a call
-module _ (s : State) (h : List Event) (a : Agreed s h) (c i : ℕ) (e : caller_named s c ≡ At i) where
+module _ (s : State) (h : List Event) (a : Agreed s h) (c i : ℕ) (e : caller_named s c ≡ Some i) where
   pub caller_is : c ≡ suc i
   caller_is = (named s c i e).0
 

@@ -1,16 +1,15 @@
 -- What allowed an event: the facts that its call had tested. Every theorem over lists of calls goes by these and opens
 -- no call. Assumes nothing.
+use Rattle.std.specs.Prelude.{Some, None}
 use Prim.Native.Nat.{ℕ, ◌≤◌, ◌<◌, ◌^◌}
 use mathlib.Core.Path.{◌≡◌, refl}
 use mathlib.Core.Bool.{true, false}
 use mathlib.Core.List.{List, [], ◌∷◌}
-use mathlib.Core.Option.{none}
 use native.Mathlib.Omega.{arith}
 use lib.Dec.{eqb}
 use lib.ListN.{length}
 use borrow.Author.Tests.{eq-eqb, eqb-true}
 use Rattle.records.specs.Records.{max_groups}
-use Rattle.idmap.specs.declared.Translated.TheVariants.{Id}
 use Rattle.idmap.specs.Ranges.{one_has, lies_whole}
 use Rattle.idmap.specs.Text.{map_lines}
 use Rattle.idmap.specs.Good.{good_of, bounded_of, fits_of, all_apart}
@@ -47,15 +46,15 @@ pub record Joins (h : List Event) (c n : ℕ) : Type 0 where
 -- a map that was not written is, below one that was, and each line's parent side lies whole in one line of that one
 pub record Maps (h : List Event) (k : Kind) (q : ℕ) (text : List ℕ) : Type 0 where
   pub process : is_process h q ≡ true
-  pub unwritten : written_of k h (place_of h q) ≡ none
-  pub parent_written : written_of k h (parent_of h (place_of h q)) ≡ none → ⊥
+  pub unwritten : written_of k h (place_of h q) ≡ None
+  pub parent_written : written_of k h (parent_of h (place_of h q)) ≡ None → ⊥
   pub whole : all_whole (lies_whole (written_lines k h (parent_of h (place_of h q)))) (or_none (map_lines text)) ≡ true
 
 -- an ID that was given is left as it is, or stands for one
 pub record Chosen (h : List Event) (k : Kind) (n x old : ℕ) : Type 0 where
   pub small : x < 2 ^ 32
   pub given : ℕ
-  pub stands : chosen_of k h n x old ≡ Id given
+  pub stands : chosen_of k h n x old ≡ Some given
 
 pub record Changes (h : List Event) (k : Kind) (c : ℕ) (new : Ids) : Type 0 where
   pub caller : is_process h c ≡ true
@@ -66,7 +65,7 @@ pub record Changes (h : List Event) (k : Kind) (c : ℕ) (new : Ids) : Type 0 wh
 -- each of a list stands for an ID in namespace n
 unfoldable pub AllStand : List Event → ℕ → List ℕ → Type 0
 AllStand h n [] = Unit {0}
-AllStand h n (x ∷ l) = (x < 2 ^ 32) × ((y : ℕ) × (stands_for Group h n x ≡ Id y)) × AllStand h n l
+AllStand h n (x ∷ l) = (x < 2 ^ 32) × ((y : ℕ) × (stands_for Group h n x ≡ Some y)) × AllStand h n l
 
 pub record Groups (h : List Event) (c : ℕ) (list : List ℕ) : Type 0 where
   pub caller : is_process h c ≡ true

@@ -1,9 +1,9 @@
 -- On tables that a list of calls leaves, the bounds of the definitions are never met. Assumes nothing.
+use Rattle.std.specs.Prelude.{Option, Some, None}
 use Prim.Native.Nat.{ℕ, zero, suc, ◌≤◌, ◌<◌}
 use mathlib.Core.Path.{◌≡◌, refl, sym, ap, ◌∙◌, subst}
 use mathlib.Core.Bool.{Bool, true, false, true≢false}
 use mathlib.Core.List.{List}
-use mathlib.Core.Option.{Option, none, some}
 use mathlib.Core.Logic.{◌↔◌}
 use native.Mathlib.Omega.{arith}
 use lib.Dec.{eqb}
@@ -11,7 +11,6 @@ use lib.ListN.{length, get_or}
 use borrow.Author.Tests.{eq-eqb, ne_eqb, eqb-true, eqb-false}
 use Rattle.capability.specs.Sets.{holds}
 use Rattle.idmap.specs.declared.Line.{Line}
-use Rattle.idmap.specs.declared.Translated.TheVariants.{Unmapped}
 use Rattle.idmap.specs.Line.{no_line}
 use Rattle.idmap.specs.Good.{max_lines}
 use Rattle.idmap.specs.Ranges.{lies_whole, HasLine}
@@ -145,8 +144,8 @@ module _ (s : State) (h : List Event) (a : Agreed s h) (d : SoundAt h) where
 
   -- ---- what stands in the tables
   counts : (o : Option (List Line)) (c : ℕ) → Counted o → state_for o ≡ Written c → (1 ≤ c) × (c ≤ max_lines) × (length (or_none o) ≡ c)
-  counts none c b e = absurd (let z : ◌≡◌ {A = ℕ} 0 1 = cc in omega arith)
-  counts (some ls) c b e = let f : length ls ≡ c = cc in (omega (arith, b.0), omega (arith, b.1), f)
+  counts None c b e = absurd (let z : ◌≡◌ {A = ℕ} 0 1 = cc in omega arith)
+  counts (Some ls) c b e = let f : length ls ≡ c = cc in (omega (arith, b.0), omega (arith, b.1), f)
 
   line_counts : (k : Kind) (n c : ℕ) → (map_in k (namespace_at s n)).state ≡ Written c → (1 ≤ c) × (c ≤ max_lines) × (length (lines_at s k n) ≡ c)
   line_counts k n c e = rw (lines_agree s h a k n) (counts (written_of k h n) c (d.counted k n) (sym (a.namespace_state k n) ∙ e))
@@ -155,12 +154,12 @@ module _ (s : State) (h : List Event) (a : Agreed s h) (d : SoundAt h) where
   lines_whole k n =
       rw (lines_agree s h a k (namespace_at s n).parent ∙ ap (written_lines k h) (a.namespace_parent n), lines_agree s h a k n) (d.whole k n)
 
-  unwritten_none : (o : Option (List Line)) → state_for o ≡ Unwritten → o ≡ none
-  unwritten_none none e = refl
-  unwritten_none (some ls) e = absurd (let z : ◌≡◌ {A = ℕ} 0 1 = cc in omega arith)
+  unwritten_none : (o : Option (List Line)) → state_for o ≡ Unwritten → o ≡ None
+  unwritten_none None e = refl
+  unwritten_none (Some ls) e = absurd (let z : ◌≡◌ {A = ℕ} 0 1 = cc in omega arith)
 
   -- namespace 0's map is written, and through no lines nothing is found
-  translates_nothing : (k : Kind) (n x : ℕ) → written_of k h n ≡ none → ((by_levels s).out k n x ≡ Unmapped) × ((by_levels s).back k n x ≡ Unmapped)
+  translates_nothing : (k : Kind) (n x : ℕ) → written_of k h n ≡ None → ((by_levels s).out k n x ≡ None) × ((by_levels s).back k n x ≡ None)
   translates_nothing k n x e =
       let z : n ≡ 0 → ⊥ = λ q. d.root_written k (ap (written_of k h) (sym q) ∙ e) in
       let u = levels_history s h a d in (

@@ -1,5 +1,6 @@
 -- Every ID that a process under a top-level namespace carries is mapped there, or was carried in by it or by one that
 -- it descends from. Assumes nothing.
+use Rattle.std.specs.Prelude.{Some}
 use Prim.Native.Nat.{ℕ, zero, suc, ◌≤◌, ◌<◌, ◌^◌}
 use mathlib.Core.Path.{◌≡◌, refl, sym, ap, ◌∙◌, subst}
 use mathlib.Core.Bool.{true, ◌&&◌}
@@ -11,7 +12,6 @@ use lib.ListN.{length, length-map}
 use borrow.Author.Tests.{eq-eqb, eqb-true, eqb-false}
 use Rattle.records.specs.Records.{max_groups}
 use Rattle.idmap.specs.declared.Line.{Line}
-use Rattle.idmap.specs.declared.Translated.TheVariants.{Id}
 use Rattle.idmap.specs.Good.{no_id}
 use Rattle.idmap.specs.Lookup.{or_no_id}
 use Rattle.records.specs.declared.Kind.{Kind}
@@ -106,7 +106,7 @@ tell h s b (suc l) n d t =
 
 -- ---- IDs taken in a namespace under b are mapped in b
 module _ (k : Kind) (h : List Event) (s : SoundAt h) (b n : ℕ) (u : IsUnder h b n) where
-  taken : (x y : ℕ) → x < 2 ^ 32 → stands_for k h n x ≡ Id y → Stands k h b y
+  taken : (x y : ℕ) → x < 2 ^ 32 → stands_for k h n x ≡ Some y → Stands k h b y
   taken x y small e =
       passes h s k b n x y u (stands_is h s k n x y small e)
 
@@ -114,17 +114,17 @@ module _ (k : Kind) (h : List Event) (s : SoundAt h) (b n : ℕ) (u : IsUnder h 
   choice : (x old y : ℕ) → Chosen h k n x old → y ≡ or_no_id (chosen_of k h n x old) → (y ≡ old) ⊎ Stands k h b y
   choice x old y c e =
       by_test (eqb x no_id)
-      (λ t. let f : Id old ≡ Id c.given = sym (rw t) ∙ c.stands in inl (e ∙ rw t))
+      (λ t. let f : Some old ≡ Some c.given = sym (rw t) ∙ c.stands in inl (e ∙ rw t))
       (λ t.
-      let f : stands_for k h n x ≡ Id c.given = sym (rw t) ∙ c.stands in
+      let f : stands_for k h n x ≡ Some c.given = sym (rw t) ∙ c.stands in
       let g : y ≡ c.given = e ∙ rw (t, f) in
-      inr (taken x y c.small (f ∙ ap Id (sym g))))
+      inr (taken x y c.small (f ∙ ap Some (sym g))))
 
 -- of a list of groups
 all_taken : (h : List Event) → SoundAt h → (b n y : ℕ) → IsUnder h b n → (list : List ℕ) → AllStand h n list → Has y (map (λ (x : ℕ). or_no_id (stands_for Group h n x)) list) → Stands Group h b y
 unfolding AllStand Has
 all_taken h s b n y u [] a i = absurd i
-all_taken h s b n y u (x ∷ list) (small, (z, e), a) (inl i) = taken Group h s b n u x y small (e ∙ ap Id (sym (i ∙ rw e)))
+all_taken h s b n y u (x ∷ list) (small, (z, e), a) (inl i) = taken Group h s b n u x y small (e ∙ ap Some (sym (i ∙ rw e)))
 all_taken h s b n y u (x ∷ list) (small, m, a) (inr i) = all_taken h s b n y u list a i
 
 -- ---- one event

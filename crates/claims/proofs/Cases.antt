@@ -1,24 +1,20 @@
 -- What each call that may store can come to: a refusal of document 01's table, or its one success with the facts that
 -- it had found. A fact about every call is proved by these cases. Assumes nothing.
+use Rattle.std.specs.Prelude.{Option, Some, None}
 use Prim.Native.Nat.{ℕ}
 use mathlib.Core.Path.{◌≡◌, refl}
 use mathlib.Core.Bool.{Bool, true, false, cond}
 use mathlib.Core.List.{List}
 use mathlib.Core.Logic.{inl, inr}
-use mathlib.Core.Option.{Option, none, some}
 use lib.Dec.{eqb, leb, ltb}
 use lib.ListN.{length}
 use Rattle.claims.proofs.Stores.{process_named_lem}
 use Rattle.capability.specs.Sets.{is_within, cap_sys_admin, cap_setgid}
 use Rattle.idmap.specs.declared.Line.{Line}
-use Rattle.idmap.specs.declared.Translated.{Translated}
-use Rattle.idmap.specs.declared.Translated.TheVariants.{Id, Unmapped}
 use Rattle.idmap.specs.Text.{map_lines, max_text_bytes}
 use Rattle.records.specs.declared.Kind.{Kind}
 use Rattle.records.specs.declared.Ids.{Ids}
 use Rattle.records.specs.Records.{ids_in, map_in, set_id_of, is_written, with_deny, max_groups}
-use Rattle.tables.specs.declared.find.Found.{Found}
-use Rattle.tables.specs.declared.find.Found.TheVariants.{At, Nothing}
 use Rattle.tables.specs.Tables.{State, process_at, namespace_at, put_process, put_namespace, max_level}
 use Rattle.tables.specs.Find.{process_named, namespace_named, free_process_place, free_namespace_place, caller_named, process_number}
 use Rattle.tables.specs.Reply.{done, child, child_in, new_namespace, Outcome, refuse, on_found}
@@ -30,32 +26,32 @@ use Rattle.claims.specs.TopLevel.{Has}
 use Rattle.claims.specs.Refusals.{refusal_numbers}
 
 -- ---- by cases on what a definition tests
-pub found_case : {A : Type 0} (P : A → Type 0) (f : Found) {x : A} {next : ℕ → A} → P x → ((i : ℕ) → f ≡ At i → P (next i)) → P (on_found f x next)
-found_case P (At i) g k = k i refl
-found_case P Nothing g k = g
+pub found_case : {A : Type 0} (P : A → Type 0) (f : Option ℕ) {x : A} {next : ℕ → A} → P x → ((i : ℕ) → f ≡ Some i → P (next i)) → P (on_found f x next)
+found_case P (Some i) g k = k i refl
+found_case P None g k = g
 
 test_case : {A : Type 0} (P : A → Type 0) (t : Bool) {x y : A} → (t ≡ true → P x) → (t ≡ false → P y) → P (cond t x y)
 test_case P true g k = g refl
 test_case P false g k = k refl
 
-lines_case : {A : Type 0} (P : A → Type 0) (o : Option (List Line)) {x : A} {next : List Line → A} → P x → ((ls : List Line) → o ≡ some ls → P (next ls)) → P (then_lines o x next)
-lines_case P none p f = p
-lines_case P (some ls) p f = f ls refl
+lines_case : {A : Type 0} (P : A → Type 0) (o : Option (List Line)) {x : A} {next : List Line → A} → P x → ((ls : List Line) → o ≡ Some ls → P (next ls)) → P (then_lines o x next)
+lines_case P None p f = p
+lines_case P (Some ls) p f = f ls refl
 
 setting_case : {A : Type 0} (P : A → Type 0) (o : Option Bool) {x y z : A} → P x → P y → P z → P (then_setting o x y z)
-setting_case P none p q r = p
-setting_case P (some true) p q r = q
-setting_case P (some false) p q r = r
+setting_case P None p q r = p
+setting_case P (Some true) p q r = q
+setting_case P (Some false) p q r = r
 
-three_case : {A : Type 0} (P : A → Type 0) (t u v : Translated) {x : A} {next : ℕ → ℕ → ℕ → A} → P x → ((a b c : ℕ) → t ≡ Id a → u ≡ Id b → v ≡ Id c → P (next a b c)) → P (then_three t u v x next)
-three_case P (Id a) (Id b) (Id c) p f = f a b c refl refl refl
-three_case P (Id a) (Id b) Unmapped p f = p
-three_case P (Id a) Unmapped v p f = p
-three_case P Unmapped u v p f = p
+three_case : {A : Type 0} (P : A → Type 0) (t u v : Option ℕ) {x : A} {next : ℕ → ℕ → ℕ → A} → P x → ((a b c : ℕ) → t ≡ Some a → u ≡ Some b → v ≡ Some c → P (next a b c)) → P (then_three t u v x next)
+three_case P (Some a) (Some b) (Some c) p f = f a b c refl refl refl
+three_case P (Some a) (Some b) None p f = p
+three_case P (Some a) None v p f = p
+three_case P None u v p f = p
 
-list_case : {A : Type 0} (P : A → Type 0) (o : Option (List ℕ)) {x : A} {next : List ℕ → A} → P x → ((l : List ℕ) → o ≡ some l → P (next l)) → P (then_list o x next)
-list_case P none p f = p
-list_case P (some l) p f = f l refl
+list_case : {A : Type 0} (P : A → Type 0) (o : Option (List ℕ)) {x : A} {next : List ℕ → A} → P x → ((l : List ℕ) → o ≡ Some l → P (next l)) → P (then_list o x next)
+list_case P None p f = p
+list_case P (Some l) p f = f l refl
 
 -- ---- the numbers of document 01's table
 pub is_1 : Has 1 refusal_numbers
@@ -89,13 +85,13 @@ is_87 = inr (inr (inr (inr (inr (inr (inl refl))))))
 -- ---- the calls. P is what is to hold of an outcome, and no says it of every refusal
 module _ (by : Translation) (s : State) (P : Outcome → Type 0) (no : (e : ℕ) → Has e refusal_numbers → P (refuse s e)) where
   pub fork_case : (c : ℕ)
-      → ((i q : ℕ) → caller_named s c ≡ At i → free_process_place s ≡ At q → P (record { reply = child (process_number q); tables = put_process s q (process_at s i) }))
+      → ((i q : ℕ) → caller_named s c ≡ Some i → free_process_place s ≡ Some q → P (record { reply = child (process_number q); tables = put_process s q (process_at s i) }))
       → P (fork_of s c)
   unfolding fork_of
   fork_case c f = found_case P (caller_named s c) (no 3 is_3) (λ i e. found_case P (free_process_place s) (no 11 is_11) (λ q g. f i q e g))
 
   abbrev Room : ℕ → ℕ → ℕ → Type 0
-  Room c p n = (caller_named s c ≡ At p) × (free_namespace_place s ≡ At n) × (leb max_level (namespace_at s (process_at s p).namespace).level ≡ false)
+  Room c p n = (caller_named s c ≡ Some p) × (free_namespace_place s ≡ Some n) × (leb max_level (namespace_at s (process_at s p).namespace).level ≡ false)
 
   makes_case : (c : ℕ) (next : ℕ → ℕ → Outcome) → ((p n : ℕ) → Room c p n → P (next p n)) → P (makes_namespace by s c next)
   makes_case c next f =
@@ -106,7 +102,7 @@ module _ (by : Translation) (s : State) (P : Outcome → Type 0) (no : (e : ℕ)
       (λ t. no 1 is_1)))
 
   pub clone_case : (c : ℕ)
-      → ((p n q : ℕ) → Room c p n → free_process_place s ≡ At q → P (record { reply = child_in (process_number q) n; tables = put_process (with_child s p n) q (entered (process_at s p) n) }))
+      → ((p n q : ℕ) → Room c p n → free_process_place s ≡ Some q → P (record { reply = child_in (process_number q) n; tables = put_process (with_child s p n) q (entered (process_at s p) n) }))
       → P (clone_of by s c)
   unfolding clone_of
   clone_case c f = makes_case c _ (λ p n r. found_case P (free_process_place s) (no 11 is_11) (λ q g. f p n q r g))
@@ -118,7 +114,7 @@ module _ (by : Translation) (s : State) (P : Outcome → Type 0) (no : (e : ℕ)
   unshare_case c f = makes_case c _ f
 
   pub setns_case : (c name : ℕ)
-      → ((p n : ℕ) → caller_named s c ≡ At p → namespace_named s p name ≡ At n → capable_in s (process_at s p) n cap_sys_admin ≡ true
+      → ((p n : ℕ) → caller_named s c ≡ Some p → namespace_named s p name ≡ Some n → capable_in s (process_at s p) n cap_sys_admin ≡ true
       → P (record { reply = done; tables = put_process s p (entered (process_at s p) n) }))
       → P (setns_of s c name)
   unfolding setns_of
@@ -129,7 +125,7 @@ module _ (by : Translation) (s : State) (P : Outcome → Type 0) (no : (e : ℕ)
       test_case P (capable_in s (process_at s p) n cap_sys_admin) (λ u. f p n e g u) (λ u. no 1 is_1))))
 
   pub write_map_case : (k : Kind) (c name : ℕ) (text : List ℕ)
-      → ((p : ℕ) (ls : List Line) → caller_named s name ≡ At p → is_written (map_in k (namespace_at s (process_at s p).namespace)).state ≡ false → map_lines text ≡ some ls
+      → ((p : ℕ) (ls : List Line) → caller_named s name ≡ Some p → is_written (map_in k (namespace_at s (process_at s p).namespace)).state ≡ false → map_lines text ≡ Some ls
       → all_whole (by.whole k (namespace_at s (process_at s p).namespace).parent) ls ≡ true
       → P (record { reply = done; tables = mapped_tables by s k (process_at s p).namespace ls }))
       → P (write_map_of by s k c name text)
@@ -154,7 +150,7 @@ module _ (by : Translation) (s : State) (P : Outcome → Type 0) (no : (e : ℕ)
       (λ t. no 1 is_1))))
 
   pub write_setgroups_case : (c name : ℕ) (text : List ℕ)
-      → ((p : ℕ) (b : Bool) → caller_named s name ≡ At p
+      → ((p : ℕ) (b : Bool) → caller_named s name ≡ Some p
       → P (record { reply = done; tables = put_namespace s (process_at s p).namespace (with_deny (namespace_at s (process_at s p).namespace) b) }))
       → P (write_setgroups_of s c name text)
   unfolding write_setgroups_of write_setgroups_to
@@ -170,10 +166,10 @@ module _ (by : Translation) (s : State) (P : Outcome → Type 0) (no : (e : ℕ)
       (λ t. no 1 is_1)))
 
   pub set_ids_case : (k : Kind) (c : ℕ) (new : Ids)
-      → ((i x y z : ℕ) → caller_named s c ≡ At i
-      → chosen by k (process_at s i).namespace new.real (ids_in k (process_at s i)).real ≡ Id x
-      → chosen by k (process_at s i).namespace new.effective (ids_in k (process_at s i)).effective ≡ Id y
-      → chosen by k (process_at s i).namespace new.saved (ids_in k (process_at s i)).saved ≡ Id z
+      → ((i x y z : ℕ) → caller_named s c ≡ Some i
+      → chosen by k (process_at s i).namespace new.real (ids_in k (process_at s i)).real ≡ Some x
+      → chosen by k (process_at s i).namespace new.effective (ids_in k (process_at s i)).effective ≡ Some y
+      → chosen by k (process_at s i).namespace new.saved (ids_in k (process_at s i)).saved ≡ Some z
       → P (record { reply = done; tables = put_process s i (with_ids by k (process_at s i) (record { real = x; effective = y; saved = z })) }))
       → P (set_ids_of by s k c new.real new.effective new.saved)
   unfolding set_ids_of
@@ -185,7 +181,7 @@ module _ (by : Translation) (s : State) (P : Outcome → Type 0) (no : (e : ℕ)
       (λ t. no 1 is_1)))
 
   pub set_groups_case : (c : ℕ) (list : List ℕ)
-      → ((i : ℕ) (l : List ℕ) → caller_named s c ≡ At i → ltb max_groups (length list) ≡ false → kernel_groups by (process_at s i).namespace list ≡ some l
+      → ((i : ℕ) (l : List ℕ) → caller_named s c ≡ Some i → ltb max_groups (length list) ≡ false → kernel_groups by (process_at s i).namespace list ≡ Some l
       → P (record { reply = done; tables = put_process s i (with_list (process_at s i) (group_list l)) }))
       → P (set_groups_of by s c list)
   unfolding set_groups_of
@@ -202,7 +198,7 @@ module _ (by : Translation) (s : State) (P : Outcome → Type 0) (no : (e : ℕ)
       (λ t. no 1 is_1))
 
   pub drop_case : (c permitted effective : ℕ)
-      → ((i : ℕ) → caller_named s c ≡ At i → P (record { reply = done; tables = put_process s i (with_sets (process_at s i) permitted effective) }))
+      → ((i : ℕ) → caller_named s c ≡ Some i → P (record { reply = done; tables = put_process s i (with_sets (process_at s i) permitted effective) }))
       → P (drop_of s c permitted effective)
   unfolding drop_of
   drop_case c permitted effective f =

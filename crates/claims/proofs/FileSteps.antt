@@ -1,10 +1,10 @@
 -- The writes of the map files and of the setgroups file: what each leaves agrees with its history, and it was allowed.
 -- Assumes nothing.
+use Rattle.std.specs.Prelude.{Some, None}
 use Prim.Native.Nat.{ℕ, ◌-◌, ◌<◌}
 use mathlib.Core.Path.{◌≡◌, refl, sym, ap, ◌∙◌, subst}
 use mathlib.Core.Bool.{Bool, true, false, cond, ◌&&◌, true≢false}
 use mathlib.Core.List.{List, [], ◌∷◌, ◌++◌, map}
-use mathlib.Core.Option.{none, some}
 use native.Mathlib.Omega.{arith}
 use lib.Dec.{eqb}
 use lib.ListN.{length, replicate}
@@ -23,7 +23,6 @@ use Rattle.records.specs.declared.MapState.{MapState}
 use Rattle.records.specs.declared.MapState.TheVariants.{Unwritten, Written}
 use Rattle.records.specs.declared.IdMap.{IdMap}
 use Rattle.records.specs.Records.{map_in, is_written, with_map, with_deny}
-use Rattle.tables.specs.declared.find.Found.TheVariants.{At}
 use Rattle.tables.specs.Tables.{State, process_at, namespace_at, starts_at, put_namespace, put_map}
 use Rattle.tables.specs.Find.{caller_named}
 use Rattle.hierarchy.specs.Walks.{Translation}
@@ -81,24 +80,24 @@ deny_map User n b = refl
 deny_map Group n b = refl
 
 -- a map that is written with lines has them
-written_lines_lem : (ls : List Line) → written_in (written_map ls) ≡ some ls
+written_lines_lem : (ls : List Line) → written_in (written_map ls) ≡ Some ls
 unfolding padded
-written_lines_lem ls = ap some (take-append_seam ls (replicate (max_lines - length ls) no_line))
+written_lines_lem ls = ap Some (take-append_seam ls (replicate (max_lines - length ls) no_line))
 
 -- the lines of a text are some
-some_lines : (text : List ℕ) (ls : List Line) → map_lines text ≡ some ls → 0 < length ls
+some_lines : (text : List ℕ) (ls : List Line) → map_lines text ≡ Some ls → 0 < length ls
 some_lines text ls e = (subst Counted e (map_lines_counted text)).0
 
-unwritten_is : (m : IdMap) → is_written m.state ≡ false → written_in m ≡ none
+unwritten_is : (m : IdMap) → is_written m.state ≡ false → written_in m ≡ None
 unwritten_is m e = by_state m.state e
   where
-    by_state : (t : MapState) → is_written t ≡ false → if_written t m.lines ≡ none
+    by_state : (t : MapState) → is_written t ≡ false → if_written t m.lines ≡ None
     by_state Unwritten e = refl
     by_state (Written n) e = absurd (true≢false e)
 
 module _ (by : Translation) (s : State) (h : List Event) (a : Agreed s h) (b : Beside s h) (d : SoundAt h) (o : by ≡ by_history h) (text list : List ℕ) where
   -- the namespace of a process that is named
-  module _ (name p : ℕ) (e : caller_named s name ≡ At p) where
+  module _ (name p : ℕ) (e : caller_named s name ≡ Some p) where
     target : ℕ
     target = (process_at s p).namespace
 
@@ -106,7 +105,7 @@ module _ (by : Translation) (s : State) (h : List Event) (a : Agreed s h) (b : B
     target_live = a.namespace_live (process_at s p).namespace ∙ rw (caller_place s h a name p e) (d.placed name (caller_live s h a name p e))
 
     -- the maps after a write: those of the other kind and of other namespaces are as they were
-    maps_after : (j k : Kind) (ls : List Line) → map_lines text ≡ some ls → (i : ℕ)
+    maps_after : (j k : Kind) (ls : List Line) → map_lines text ≡ Some ls → (i : ℕ)
         → cond (eqb i (process_at s p).namespace) (written_in (map_in k (with_map j (namespace_at s (process_at s p).namespace) (written_map ls)))) (written_of k h i) ≡ cond (same_kind k j && eqb i (place_of h name)) (map_lines text) (written_of k h i)
     unfolding with_map
     maps_after User User ls m i = rw (caller_place s h a name p e, m, written_lines_lem ls)
@@ -114,11 +113,11 @@ module _ (by : Translation) (s : State) (h : List Event) (a : Agreed s h) (b : B
     maps_after User Group ls m i = picked_same (written_of Group h) i (process_at s p).namespace _ (a.namespace_map Group (process_at s p).namespace)
     maps_after Group User ls m i = picked_same (written_of User h) i (process_at s p).namespace _ (a.namespace_map User (process_at s p).namespace)
 
-    states_after : (j k : Kind) (ls : List Line) → map_lines text ≡ some ls → (i : ℕ)
+    states_after : (j k : Kind) (ls : List Line) → map_lines text ≡ Some ls → (i : ℕ)
         → cond (eqb i (process_at s p).namespace) (map_in k (with_map j (namespace_at s (process_at s p).namespace) (written_map ls))).state (state_for (written_of k h i)) ≡ state_for (cond (same_kind k j && eqb i (place_of h name)) (map_lines text) (written_of k h i))
     unfolding with_map
-    states_after User User ls m i = rw (caller_place s h a name p e, m) (sym (cond_ap state_for (eqb i (place_of h name)) (some ls) (written_of User h i)))
-    states_after Group Group ls m i = rw (caller_place s h a name p e, m) (sym (cond_ap state_for (eqb i (place_of h name)) (some ls) (written_of Group h i)))
+    states_after User User ls m i = rw (caller_place s h a name p e, m) (sym (cond_ap state_for (eqb i (place_of h name)) (Some ls) (written_of User h i)))
+    states_after Group Group ls m i = rw (caller_place s h a name p e, m) (sym (cond_ap state_for (eqb i (place_of h name)) (Some ls) (written_of Group h i)))
     states_after User Group ls m i = picked_same (λ (n : ℕ). state_for (written_of Group h n)) i (process_at s p).namespace _ (a.namespace_state Group (process_at s p).namespace)
     states_after Group User ls m i = picked_same (λ (n : ℕ). state_for (written_of User h n)) i (process_at s p).namespace _ (a.namespace_state User (process_at s p).namespace)
 
@@ -133,7 +132,7 @@ module _ (by : Translation) (s : State) (h : List Event) (a : Agreed s h) (b : B
     out_is : (k : Kind) → by.out k (namespace_at s (process_at s p).namespace).parent ≡ stands_for k h (parent_of h (place_of h name))
     out_is k = (λ i. (o i).out k (namespace_at s (process_at s p).namespace).parent) ∙ ap (λ (m : ℕ). stands_for k h m) up_is
 
-    module _ (k : Kind) (ls : List Line) (m : map_lines text ≡ some ls) (w : is_written (map_in k (namespace_at s (process_at s p).namespace)).state ≡ false)
+    module _ (k : Kind) (ls : List Line) (m : map_lines text ≡ Some ls) (w : is_written (map_in k (namespace_at s (process_at s p).namespace)).state ≡ false)
         (c : all_whole (by.whole k (namespace_at s (process_at s p).namespace).parent) ls ≡ true) where
       all_whole_lem : all_whole (lies_whole (written_lines k h (parent_of h (place_of h name)))) ls ≡ true
       all_whole_lem = rw (above_is k) at c

@@ -1,9 +1,9 @@
 -- The laws of Levels of the parents, the lines and the levels that a history gives. Assumes nothing.
+use Rattle.std.specs.Prelude.{Some}
 use Prim.Native.Nat.{ℕ, ◌<◌, ◌^◌}
 use mathlib.Core.Path.{◌≡◌}
 use mathlib.Core.List.{List}
 use native.Mathlib.Omega.{arith}
-use Rattle.idmap.specs.declared.Translated.TheVariants.{Id}
 use Rattle.idmap.specs.Good.{no_id}
 use Rattle.records.specs.declared.Kind.{Kind}
 use Rattle.claims.specs.Events.{Event}
@@ -16,17 +16,17 @@ use Rattle.claims.proofs.Allowed.{SoundAt}
 
 module _ (h : List Event) (d : SoundAt h) (k : Kind) where
   -- what the lookups give, the relations have
-  pub stands_is : (n x y : ℕ) → x < 2 ^ 32 → stands_for k h n x ≡ Id y → OutOf k h n x y
+  pub stands_is : (n x y : ℕ) → x < 2 ^ 32 → stands_for k h n x ≡ Some y → OutOf k h n x y
   stands_is n = Levels.out_is (parent_of h) (written_lines k h) (d.good k) (level_of h n) n
 
-  pub returns_is : (n y x : ℕ) → y < 2 ^ 32 → back_by (parent_of h) (written_lines k h) (level_of h n) n y ≡ Id x → BackOf k h n y x
+  pub returns_is : (n y x : ℕ) → y < 2 ^ 32 → back_by (parent_of h) (written_lines k h) (level_of h n) n y ≡ Some x → BackOf k h n y x
   returns_is n = Levels.back_is (parent_of h) (written_lines k h) (d.good k) (level_of h n) n
 
   -- and what the relations have, the lookups give
-  pub is_stands : (n x y : ℕ) → OutOf k h n x y → stands_for k h n x ≡ Id y
+  pub is_stands : (n x y : ℕ) → OutOf k h n x y → stands_for k h n x ≡ Some y
   is_stands n x y = Levels.is_out (parent_of h) (written_lines k h) (d.good k) (level_of h) (deep _ _ _ _ _ _ d k) (level_of h n) n x y (omega arith)
 
-  pub is_returns : (n y x : ℕ) → BackOf k h n y x → back_by (parent_of h) (written_lines k h) (level_of h n) n y ≡ Id x
+  pub is_returns : (n y x : ℕ) → BackOf k h n y x → back_by (parent_of h) (written_lines k h) (level_of h n) n y ≡ Some x
   is_returns n y x = Levels.is_back (parent_of h) (written_lines k h) (d.good k) (level_of h) (deep _ _ _ _ _ _ d k) (level_of h n) n y x (omega arith)
 
   pub back_small : (n y x : ℕ) → BackOf k h n y x → x < no_id

@@ -1,17 +1,15 @@
 -- ID changes, setgroups and drop: what each leaves agrees with its history, and it was allowed. Assumes nothing.
+use Rattle.std.specs.Prelude.{Option, Some, None}
 use Prim.Native.Nat.{ℕ, suc, ◌-◌, ◌≤◌, ◌<◌, ◌^◌}
 use mathlib.Core.Path.{◌≡◌, refl, sym, ap, ◌∙◌, subst}
 use mathlib.Core.Bool.{Bool, true, false, cond, ◌&&◌}
 use mathlib.Core.List.{List, [], ◌∷◌, map}
-use mathlib.Core.Option.{some}
 use lib.Dec.{eqb}
 use lib.ListN.{length, take, replicate}
 use lib.Seq.{take-append_seam}
 use borrow.Author.Tests.{eqb-true, ltb-false}
 use Rattle.prelude.specs.Lists.{all_of}
 use Rattle.prelude.proofs.Made.{cons_some, some_none}
-use Rattle.idmap.specs.declared.Translated.{Translated}
-use Rattle.idmap.specs.declared.Translated.TheVariants.{Id, Unmapped}
 use Rattle.idmap.specs.Lookup.{or_no_id}
 use Rattle.records.specs.declared.Kind.{Kind}
 use Rattle.records.specs.declared.Kind.TheVariants.{User, Group}
@@ -19,7 +17,6 @@ use Rattle.records.specs.declared.Ids.{Ids}
 use Rattle.records.specs.declared.GroupList.{GroupList}
 use Rattle.records.specs.declared.Process.{Process}
 use Rattle.records.specs.Records.{ids_in, max_groups}
-use Rattle.tables.specs.declared.find.Found.TheVariants.{At}
 use Rattle.tables.specs.Tables.{State, process_at, put_process}
 use Rattle.tables.specs.Find.{caller_named}
 use Rattle.hierarchy.specs.Walks.{Translation}
@@ -74,11 +71,11 @@ sets_ids User p permitted effective = refl
 sets_ids Group p permitted effective = refl
 
 -- ---- the groups of a list, each mapped
-option_id : (t : Translated) (y : ℕ) → to_option t ≡ some y → t ≡ Id y
-option_id (Id x) y e = let f : x ≡ y = cc in ap Id f
-option_id Unmapped y e = absurd (some_none (sym e))
+option_id : (t : Option ℕ) (y : ℕ) → to_option t ≡ Some y → t ≡ Some y
+option_id (Some x) y e = let f : x ≡ y = cc in ap Some f
+option_id None y e = absurd (some_none (sym e))
 
-groups_are : (g : ℕ → Translated) (list l : List ℕ) → all_of (λ (x : ℕ). to_option (g x)) list ≡ some l → l ≡ map (λ (x : ℕ). or_no_id (g x)) list
+groups_are : (g : ℕ → Option ℕ) (list l : List ℕ) → all_of (λ (x : ℕ). to_option (g x)) list ≡ Some l → l ≡ map (λ (x : ℕ). or_no_id (g x)) list
 unfolding all_of
 groups_are g [] l e = cc
 groups_are g (x ∷ list) l e =
@@ -87,7 +84,7 @@ groups_are g (x ∷ list) l e =
     ∙ ap (λ (y : ℕ). y ∷ r.1) (sym (ap or_no_id (option_id (g x) r.0 r.2)))
     ∙ ap (λ (ys : List ℕ). or_no_id (g x) ∷ ys) (groups_are g list r.1 r.3)
 
-groups_stand : (h : List Event) (n : ℕ) (list l : List ℕ) → AllSmall list → all_of (λ (x : ℕ). to_option (stands_for Group h n x)) list ≡ some l → AllStand h n list
+groups_stand : (h : List Event) (n : ℕ) (list l : List ℕ) → AllSmall list → all_of (λ (x : ℕ). to_option (stands_for Group h n x)) list ≡ Some l → AllStand h n list
 unfolding all_of AllSmall AllStand
 groups_stand h n [] l b e = tt
 groups_stand h n (x ∷ list) l b e =
@@ -98,7 +95,7 @@ module _ (by : Translation) (s : State) (h : List Event) (a : Agreed s h) (b : B
   outs : (k : Kind) (n x : ℕ) → by.out k n x ≡ stands_for k h n x
   outs k n x = λ j. (o j).out k n x
 
-  module _ (c i : ℕ) (e : caller_named s c ≡ At i) where
+  module _ (c i : ℕ) (e : caller_named s c ≡ Some i) where
     -- one of the three: the tables choose as the history does
     chosen_agrees : (k : Kind) (x old old' : ℕ) → old ≡ old' → chosen by k (process_at s i).namespace x old ≡ chosen_of k h (place_of h c) x old'
     chosen_agrees k x old old' f = rw (f, outs k (process_at s i).namespace x, caller_place s h a c i e)
@@ -113,19 +110,19 @@ module _ (by : Translation) (s : State) (h : List Event) (a : Agreed s h) (b : B
     saved_is k = ap (λ (m : Held). m.three.saved) (caller_ids s h a c i e k)
 
     module _ (k : Kind) (new : Ids) (x y z : ℕ)
-        (fx : chosen by k (process_at s i).namespace new.real (ids_in k (process_at s i)).real ≡ Id x)
-        (fy : chosen by k (process_at s i).namespace new.effective (ids_in k (process_at s i)).effective ≡ Id y)
-        (fz : chosen by k (process_at s i).namespace new.saved (ids_in k (process_at s i)).saved ≡ Id z) where
+        (fx : chosen by k (process_at s i).namespace new.real (ids_in k (process_at s i)).real ≡ Some x)
+        (fy : chosen by k (process_at s i).namespace new.effective (ids_in k (process_at s i)).effective ≡ Some y)
+        (fz : chosen by k (process_at s i).namespace new.saved (ids_in k (process_at s i)).saved ≡ Some z) where
       abbrev after : Ids
       after = record { real = x; effective = y; saved = z }
 
-      stands_x : chosen_of k h (place_of h c) new.real (held_of k h c).three.real ≡ Id x
+      stands_x : chosen_of k h (place_of h c) new.real (held_of k h c).three.real ≡ Some x
       stands_x = sym (chosen_agrees k new.real _ _ (real_is k)) ∙ fx
 
-      stands_y : chosen_of k h (place_of h c) new.effective (held_of k h c).three.effective ≡ Id y
+      stands_y : chosen_of k h (place_of h c) new.effective (held_of k h c).three.effective ≡ Some y
       stands_y = sym (chosen_agrees k new.effective _ _ (effective_is k)) ∙ fy
 
-      stands_z : chosen_of k h (place_of h c) new.saved (held_of k h c).three.saved ≡ Id z
+      stands_z : chosen_of k h (place_of h c) new.saved (held_of k h c).three.saved ≡ Some z
       stands_z = sym (chosen_agrees k new.saved _ _ (saved_is k)) ∙ fz
 
       changed_is : changed_ids k h (place_of h c) new (held_of k h c).three ≡ after
@@ -186,11 +183,11 @@ module _ (by : Translation) (s : State) (h : List Event) (a : Agreed s h) (b : B
       (keeps_beside s h b _ _))
 
   -- ---- setgroups
-  module _ (c i : ℕ) (e : caller_named s c ≡ At i) (l : List ℕ) (f : kernel_groups by (process_at s i).namespace list ≡ some l) where
-    all_stand : all_of (λ (x : ℕ). to_option (stands_for Group h (place_of h c) x)) list ≡ some l
+  module _ (c i : ℕ) (e : caller_named s c ≡ Some i) (l : List ℕ) (f : kernel_groups by (process_at s i).namespace list ≡ Some l) where
+    all_stand : all_of (λ (x : ℕ). to_option (stands_for Group h (place_of h c) x)) list ≡ Some l
     unfolding kernel_groups
     all_stand =
-        ap (λ (g : ℕ → Translated). all_of (λ (x : ℕ). to_option (g x)) list) (λ j x. (sym (ap (λ (n : ℕ). stands_for Group h n x) (caller_place s h a c i e)) ∙ sym (outs Group (process_at s i).namespace x)) j)
+        ap (λ (g : ℕ → Option ℕ). all_of (λ (x : ℕ). to_option (g x)) list) (λ j x. (sym (ap (λ (n : ℕ). stands_for Group h n x) (caller_place s h a c i e)) ∙ sym (outs Group (process_at s i).namespace x)) j)
         ∙ f
 
     listed : take (group_list l).count (group_list l).ids ≡ map (λ (x : ℕ). or_no_id (stands_for Group h (place_of h c) x)) list

@@ -1,9 +1,9 @@
 -- What an allowed event keeps: processes, namespaces, their parents, and every translation there was. Assumes nothing.
+use Rattle.std.specs.Prelude.{None}
 use Prim.Native.Nat.{ℕ}
 use mathlib.Core.Path.{◌≡◌, refl, sym, ap, ◌∙◌, subst}
 use mathlib.Core.Bool.{Bool, true, ◌&&◌}
 use mathlib.Core.List.{List, ◌∷◌}
-use mathlib.Core.Option.{none}
 use native.Mathlib.Nat.{not-suc-le-zero}
 use lib.Dec.{eqb}
 use borrow.Author.Tests.{ne_eqb, eqb-true}
@@ -56,8 +56,8 @@ parent_kept (changed k c new) h a m t = refl
 parent_kept (grouped c list) h a m t = refl
 
 -- lines that pair IDs are there to stay: a map is written once
-nothing_paired : (k j : Kind) (h : List Event) (m n x z : ℕ) → k ≡ j → m ≡ n → written_of j h n ≡ none → Pairs (written_lines k h m) x z → ⊥
-nothing_paired k j h m n x z d e f p = let g : written_of k h m ≡ none = rw (d, e) f in not-suc-le-zero (rw g at p.which_in_range)
+nothing_paired : (k j : Kind) (h : List Event) (m n x z : ℕ) → k ≡ j → m ≡ n → written_of j h n ≡ None → Pairs (written_lines k h m) x z → ⊥
+nothing_paired k j h m n x z d e f p = let g : written_of k h m ≡ None = rw (d, e) f in not-suc-le-zero (rw g at p.which_in_range)
 
 pub pairs_kept : (k : Kind) (e : Event) (h : List Event) → Allowed h e → (m x z : ℕ) → Pairs (written_lines k h m) x z → Pairs (written_lines k (e ∷ h) m) x z
 unfolding written_of

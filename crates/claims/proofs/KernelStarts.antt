@@ -1,5 +1,6 @@
 -- A range of IDs that lies whole in one line goes out as one, so that lines with kernel starts on their parent side give
 -- what the maps give level by level, whatever gives parents and maps. Assumes nothing.
+use Rattle.std.specs.Prelude.{Option, Some}
 use Prim.Native.Nat.{ℕ, zero, suc, ◌+◌, ◌-◌, ◌≤◌, ◌<◌, ◌^◌}
 use mathlib.Core.Path.{◌≡◌, refl, sym, ap, ◌∙◌}
 use mathlib.Core.Bool.{true}
@@ -9,8 +10,6 @@ use lib.Dec.{eqb}
 use lib.ListN.{length, get_or}
 use borrow.Author.Tests.{eqb-true, eqb-false}
 use Rattle.idmap.specs.declared.Line.{Line}
-use Rattle.idmap.specs.declared.Translated.{Translated}
-use Rattle.idmap.specs.declared.Translated.TheVariants.{Id}
 use Rattle.idmap.specs.Line.{in_range, no_line}
 use Rattle.idmap.specs.Lookup.{moved_by, out, then_id}
 use Rattle.idmap.specs.Good.{no_id, good_of, all_apart, Within, Bounded, Apart}
@@ -147,11 +146,11 @@ module _ (up : ℕ → ℕ) (lines : ℕ → List Line) (good : (n : ℕ) → go
             rw e at (goes_on n l.parent y l.count w o (v - y) (omega (arith, i)))
 
         -- what it goes to by its own start, it goes to by the parent's
-        kernel_moved : (f : ℕ → Translated) → ((x v : ℕ) → Out n x v → f x ≡ Id v) → (x : ℕ) → x < 2 ^ 32 → in_range x l.inside l.count ≡ true → Id (moved_by (on_kernel l y) x) ≡ f (moved_by l x)
+        kernel_moved : (f : ℕ → Option ℕ) → ((x v : ℕ) → Out n x v → f x ≡ Some v) → (x : ℕ) → x < 2 ^ 32 → in_range x l.inside l.count ≡ true → Some (moved_by (on_kernel l y) x) ≡ f (moved_by l x)
         kernel_moved f g x small t =
             let i = in_interval x l.inside l.count small b.inside_fits t in
             let m = moved_is l b x small t in
-            ap Id (moved_is (on_kernel l y) kernel_bounded x small t)
+            ap Some (moved_is (on_kernel l y) kernel_bounded x small t)
             ∙ sym (rw m (g (l.parent + (x - l.inside)) (y + (x - l.inside)) (goes_on n l.parent y l.count w o (x - l.inside) (omega (arith, i)))))
 
       first_whole : (l : Line) (ls : List Line) → all_whole (lies_whole (lines n)) (l ∷ ls) ≡ true → lies_whole (lines n) l.parent l.count ≡ true
@@ -163,7 +162,7 @@ module _ (up : ℕ → ℕ) (lines : ℕ → List Line) (good : (n : ℕ) → go
       rest_whole l ls e = and_right (lies_whole (lines n) l.parent l.count) (all_whole (lies_whole (lines n)) ls) e
 
       -- a lookup by the kernel starts is one by the lines, and then the way out from namespace n
-      pub kernel_lookup : (f : ℕ → Translated) → ((x v : ℕ) → Out n x v → f x ≡ Id v) → (ls : List Line) (ys : List ℕ) → good_of ls ≡ true → all_whole (lies_whole (lines n)) ls ≡ true → Kernel ls ys
+      pub kernel_lookup : (f : ℕ → Option ℕ) → ((x v : ℕ) → Out n x v → f x ≡ Some v) → (ls : List Line) (ys : List ℕ) → good_of ls ≡ true → all_whole (lies_whole (lines n)) ls ≡ true → Kernel ls ys
           → (x : ℕ) → x < 2 ^ 32 → out (zip_with on_kernel ls ys) x ≡ then_id (out ls x) f
       unfolding zip_with out Started
       kernel_lookup f g [] ys s w r x small = refl

@@ -1,6 +1,7 @@
 -- Translation level by level over any parents and lines whose maps are good and whose levels fall from a mapped
 -- namespace to its parent: the lookups give what the relations say, each has one result, and the way out passes every
 -- namespace above. Assumes nothing.
+use Rattle.std.specs.Prelude.{Option, Some, None}
 use Prim.Native.Nat.{ℕ, zero, suc, ◌≤◌, ◌<◌, ◌^◌}
 use mathlib.Core.Path.{◌≡◌, refl, sym, ap, ◌∙◌, subst}
 use mathlib.Core.Bool.{true}
@@ -9,8 +10,6 @@ use native.Mathlib.Omega.{arith}
 use lib.Dec.{eqb}
 use borrow.Author.Tests.{eq-eqb, ne_eqb, eqb-true, eqb-false}
 use Rattle.idmap.specs.declared.Line.{Line}
-use Rattle.idmap.specs.declared.Translated.{Translated}
-use Rattle.idmap.specs.declared.Translated.TheVariants.{Id, Unmapped}
 use Rattle.idmap.specs.Lookup.{out, then_id, back}
 use Rattle.idmap.specs.Good.{no_id, good_of}
 use Rattle.idmap.proofs.Translation.{two_answers}
@@ -20,23 +19,23 @@ use Rattle.claims.specs.Translation.{Pairs, GoesOut, top, through, ComesBack, bo
 use Rattle.claims.proofs.Pairs.{out_pairs, pairs_out, back_pairs, pairs_back, inside_small, parent_small}
 
 -- a translation is an ID or not
-pub by_translated : {P : Type 0} (t : Translated) → ((z : ℕ) → t ≡ Id z → P) → (t ≡ Unmapped → P) → P
-by_translated (Id z) f g = f z refl
-by_translated Unmapped f g = g refl
+pub by_translated : {P : Type 0} (t : Option ℕ) → ((z : ℕ) → t ≡ Some z → P) → (t ≡ None → P) → P
+by_translated (Some z) f g = f z refl
+by_translated None f g = g refl
 
 -- an ID of namespace 0
-itself_is : (x y : ℕ) → x < 2 ^ 32 → itself x ≡ Id y → (x ≡ y) × (x < no_id)
+itself_is : (x y : ℕ) → x < 2 ^ 32 → itself x ≡ Some y → (x ≡ y) × (x < no_id)
 itself_is x y small e =
     by_test (eqb x no_id)
     (λ t. absurd (two_answers (sym (rw t) ∙ e)))
-    (λ t. let n = eqb-false x no_id t in let f : Id x ≡ Id y = sym (rw t) ∙ e in let q : x ≡ y = cc in (q, omega arith))
+    (λ t. let n = eqb-false x no_id t in let f : Some x ≡ Some y = sym (rw t) ∙ e in let q : x ≡ y = cc in (q, omega arith))
 
-is_itself : (x : ℕ) → x < no_id → itself x ≡ Id x
+is_itself : (x : ℕ) → x < no_id → itself x ≡ Some x
 is_itself x h = by_test (eqb x no_id) (λ t. let e = eqb-true x no_id t in absurd (omega arith)) (λ t. rw t)
 
 module _ (up : ℕ → ℕ) (lines : ℕ → List Line) (good : (n : ℕ) → good_of (lines n) ≡ true) where
   -- what the lookups give, the relations have
-  pub out_is : (k n x y : ℕ) → x < 2 ^ 32 → out_by up lines k n x ≡ Id y → GoesOut up lines n x y
+  pub out_is : (k n x y : ℕ) → x < 2 ^ 32 → out_by up lines k n x ≡ Some y → GoesOut up lines n x y
   unfolding out_by
   out_is zero n x y small e =
       by_test (eqb n 0)
@@ -57,7 +56,7 @@ module _ (up : ℕ → ℕ) (lines : ℕ → List Line) (good : (n : ℕ) → go
   back_small n y x (bottom e f h) = h
   back_small n y x (down e z b p) = inside_small (lines n) x z (good n) p
 
-  pub back_is : (k n y x : ℕ) → y < 2 ^ 32 → back_by up lines k n y ≡ Id x → ComesBack up lines n y x
+  pub back_is : (k n y x : ℕ) → y < 2 ^ 32 → back_by up lines k n y ≡ Some x → ComesBack up lines n y x
   unfolding back_by
   back_is zero n y x small e =
       by_test (eqb n 0)
@@ -91,16 +90,16 @@ module _ (up : ℕ → ℕ) (lines : ℕ → List Line) (good : (n : ℕ) → go
 
   module _ (level : ℕ → ℕ) (deep : (n x z : ℕ) → (n ≡ 0 → ⊥) → Pairs (lines n) x z → level (up n) < level n) where
     -- what the relations have, the lookups give in as many steps as the level says
-    pub is_out : (k n x y : ℕ) → level n ≤ k → GoesOut up lines n x y → out_by up lines k n x ≡ Id y
+    pub is_out : (k n x y : ℕ) → level n ≤ k → GoesOut up lines n x y → out_by up lines k n x ≡ Some y
     unfolding out_by
-    is_out zero n x y h (top e f s) = rw (eq-eqb n 0 e) (is_itself x s ∙ ap Id f)
+    is_out zero n x y h (top e f s) = rw (eq-eqb n 0 e) (is_itself x s ∙ ap Some f)
     is_out zero n x y h (through e z p o) = let d = deep n x z e p in absurd (omega arith)
-    is_out (suc k) n x y h (top e f s) = rw (eq-eqb n 0 e) (is_itself x s ∙ ap Id f)
+    is_out (suc k) n x y h (top e f s) = rw (eq-eqb n 0 e) (is_itself x s ∙ ap Some f)
     is_out (suc k) n x y h (through e z p o) =
         let d = deep n x z e p in
         rw (ne_eqb n 0 e, pairs_out (lines n) x z (good n) p) (is_out k (up n) z y (omega arith) o)
 
-    pub is_back : (k n y x : ℕ) → level n ≤ k → ComesBack up lines n y x → back_by up lines k n y ≡ Id x
+    pub is_back : (k n y x : ℕ) → level n ≤ k → ComesBack up lines n y x → back_by up lines k n y ≡ Some x
     unfolding back_by
     is_back zero n y x h (bottom e f s) = rw (eq-eqb n 0 e) (rw (sym f) (is_itself x s))
     is_back zero n y x h (down e z b p) = let d = deep n x z e p in absurd (omega arith)
@@ -121,17 +120,17 @@ module _ (up : ℕ → ℕ) (lines : ℕ → List Line) (good : (n : ℕ) → go
 
 -- ---- through no lines nothing is found
 module _ (up : ℕ → ℕ) (lines : ℕ → List Line) where
-  pub nothing_out : (f n x : ℕ) → (n ≡ 0 → ⊥) → lines n ≡ [] → out_by up lines f n x ≡ Unmapped
+  pub nothing_out : (f n x : ℕ) → (n ≡ 0 → ⊥) → lines n ≡ [] → out_by up lines f n x ≡ None
   unfolding out_by out
   nothing_out zero n x z e = rw (ne_eqb n 0 z)
   nothing_out (suc f) n x z e = rw (ne_eqb n 0 z, e)
 
-  none_then : (t : Translated) → then_id t (λ z. back [] z) ≡ Unmapped
+  none_then : (t : Option ℕ) → then_id t (λ z. back [] z) ≡ None
   unfolding out
-  none_then (Id z) = refl
-  none_then Unmapped = refl
+  none_then (Some z) = refl
+  none_then None = refl
 
-  pub nothing_back : (f n y : ℕ) → (n ≡ 0 → ⊥) → lines n ≡ [] → back_by up lines f n y ≡ Unmapped
+  pub nothing_back : (f n y : ℕ) → (n ≡ 0 → ⊥) → lines n ≡ [] → back_by up lines f n y ≡ None
   unfolding back_by
   nothing_back zero n y z e = rw (ne_eqb n 0 z)
   nothing_back (suc f) n y z e = rw (ne_eqb n 0 z, e) (none_then (back_by up lines f (up n) y))

@@ -1,4 +1,5 @@
 -- Every refusal has its number and leaves everything as it was. Assumes nothing.
+use Rattle.std.specs.Prelude.{Option, Some, None}
 use Prim.Native.Nat.{ℕ}
 use mathlib.Core.Path.{◌≡◌, refl, sym, ap, ◌∙◌, subst}
 use mathlib.Core.Bool.{Bool, true, false, cond, true≢false}
@@ -7,8 +8,6 @@ use lib.Dec.{ltb}
 use Rattle.capability.specs.Sets.{cap_last_cap}
 use Rattle.prelude.specs.Parts.{fits_at, put_at}
 use Rattle.prelude.proofs.Tests.{by_test}
-use Rattle.idmap.specs.declared.Translated.{Translated}
-use Rattle.idmap.specs.declared.Translated.TheVariants.{Id, Unmapped}
 use Rattle.tables.specs.Tables.{State, process_at}
 use Rattle.tables.specs.Find.{process_named, namespace_named, caller_named}
 use Rattle.tables.specs.Reply.{Reply, refused, yes', no', is_refused, Outcome}
@@ -49,9 +48,9 @@ module _ (by : Translation) (s : State) (buffer : List ℕ) where
       (λ t. rw t (answers s s buffer _ _ refl))
       (λ t. rw t (refuses s buffer 34 is_34))
 
-  translation : (t : Translated) → is_refused (translated t) ≡ false
-  translation (Id y) = refl
-  translation Unmapped = refl
+  translation : (t : Option ℕ) → is_refused (translated t) ≡ false
+  translation (Some y) = refl
+  translation None = refl
 
   question : (t : Bool) → is_refused (cond t yes' no') ≡ false
   question true = refl

@@ -1,10 +1,10 @@
 -- What is sound of processes, namespaces and maps, whatever gives them, and that each kind of event keeps it. Assumes
 -- nothing.
+use Rattle.std.specs.Prelude.{Option, Some, None}
 use Prim.Native.Nat.{ℕ, suc, ◌≤◌, ◌<◌}
 use mathlib.Core.Path.{◌≡◌, refl, sym, ap, ◌∙◌, subst}
 use mathlib.Core.Bool.{Bool, true, false, cond, ◌&&◌, true≢false}
 use mathlib.Core.List.{List, [], ◌∷◌}
-use mathlib.Core.Option.{Option, none, some}
 use native.Mathlib.Nat.{not-suc-le-zero}
 use native.Mathlib.Omega.{arith}
 use lib.Dec.{eqb, leb, ltb}
@@ -24,8 +24,8 @@ use Rattle.claims.specs.Translation.{Pairs}
 
 -- a written map has one line at least, and no more than there is room for
 abbrev pub Counted : Option (List Line) → Type 0
-Counted none = Unit {0}
-Counted (some ls) = (1 ≤ length ls) × (length ls ≤ max_lines)
+Counted None = Unit {0}
+Counted (Some ls) = (1 ≤ length ls) × (length ls ≤ max_lines)
 
 -- isP, isN: which numbers are processes and namespaces; place, up, level: a process's namespace, a namespace's parent
 -- and level
@@ -40,8 +40,8 @@ pub record Sound (isP isN : ℕ → Bool) (place up level : ℕ → ℕ) (maps :
   pub good : (k : Kind) (m : ℕ) → good_of (or_none (maps k m)) ≡ true
   pub counted : (k : Kind) (m : ℕ) → Counted (maps k m)
   pub whole : (k : Kind) (m : ℕ) → all_whole (lies_whole (or_none (maps k (up m)))) (or_none (maps k m)) ≡ true
-  pub made : (k : Kind) (m : ℕ) → isN m ≡ false → maps k m ≡ none
-  pub root_written : (k : Kind) → maps k 0 ≡ none → ⊥
+  pub made : (k : Kind) (m : ℕ) → isN m ≡ false → maps k m ≡ None
+  pub root_written : (k : Kind) → maps k 0 ≡ None → ⊥
 
 pub same_kind_lem : (k j : Kind) → same_kind k j ≡ true → k ≡ j
 same_kind_lem User User e = refl
@@ -56,8 +56,8 @@ differ is m n t f e = true≢false (sym t ∙ ap is e ∙ f)
 -- the lines that a map's text has are some, not too many, and good
 checked_lines : (ls : Option (List Line)) → (good_of (or_none (checked ls)) ≡ true) × Counted (checked ls)
 unfolding checked good_of
-checked_lines none = (refl, tt)
-checked_lines (some ls) =
+checked_lines None = (refl, tt)
+checked_lines (Some ls) =
     by_test (leb 1 (length ls) && (leb (length ls) max_lines && good_of ls))
     (λ t.
     let f = both (leb 1 (length ls)) (leb (length ls) max_lines && good_of ls) t in
@@ -80,7 +80,7 @@ none_whole [] e = refl
 none_whole (l ∷ ls) e = absurd (true≢false (sym (and_right (ltb 0 l.count) false (and_left (ltb 0 l.count && false) (all_whole (lies_whole []) ls) e))))
 
 -- an unwritten map has no line that does not
-unwritten_whole : (whole : ℕ → ℕ → Bool) (o : Option (List Line)) → o ≡ none → all_whole whole (or_none o) ≡ true
+unwritten_whole : (whole : ℕ → ℕ → Bool) (o : Option (List Line)) → o ≡ None → all_whole whole (or_none o) ≡ true
 unfolding all_whole
 unwritten_whole whole o e = rw e
 
@@ -159,7 +159,7 @@ module _ (isP isN : ℕ → Bool) (place up level : ℕ → ℕ) (maps : Kind �
     }
 
   -- the map of kind j of namespace n is written, which was not, each line whole in one line above it
-  module _ (j : Kind) (n : ℕ) (text : List ℕ) (t : isN n ≡ true) (u : maps j n ≡ none) (c : all_whole (lies_whole (or_none (maps j (up n)))) (or_none (map_lines text)) ≡ true) where
+  module _ (j : Kind) (n : ℕ) (text : List ℕ) (t : isN n ≡ true) (u : maps j n ≡ None) (c : all_whole (lies_whole (or_none (maps j (up n)))) (or_none (map_lines text)) ≡ true) where
     abbrev maps' : Kind → ℕ → Option (List Line)
     maps' k m = cond (same_kind k j && eqb m n) (map_lines text) (maps k m)
 
@@ -170,7 +170,7 @@ module _ (isP isN : ℕ → Bool) (place up level : ℕ → ℕ) (maps : Kind �
         by_test (same_kind k j && eqb m n)
         (λ r.
         let f = both (same_kind k j) (eqb m n) r in
-        let none-there : maps k m ≡ none = (λ i. maps (same_kind_lem k j f.0 i) (eqb-true m n f.1 i)) ∙ u in
+        let none-there : maps k m ≡ None = (λ i. maps (same_kind_lem k j f.0 i) (eqb-true m n f.1 i)) ∙ u in
         rw (none_whole ls (rw none-there at l)))
         (λ r. rw r l)
 

@@ -1,9 +1,9 @@
 -- The initial tables agree with the history in which nothing has happened. Assumes nothing.
+use Rattle.std.specs.Prelude.{None}
 use Prim.Native.Nat.{ℕ, zero, suc}
 use mathlib.Core.Path.{◌≡◌, refl, sym, ap, ◌∙◌, subst}
 use mathlib.Core.Bool.{Bool, true, false, cond}
 use mathlib.Core.List.{[]}
-use mathlib.Core.Option.{none}
 use native.Mathlib.Omega.{arith}
 use lib.Dec.{eqb}
 use lib.ListN.{length, get_or, replicate, length-replicate}
@@ -36,7 +36,7 @@ free_ids : (k : Kind) → held_in k free_process ≡ record { three = zero_ids; 
 free_ids User = refl
 free_ids Group = refl
 
-free_map_lem : (k : Kind) → written_in (map_in k free_namespace) ≡ none
+free_map_lem : (k : Kind) → written_in (map_in k free_namespace) ≡ None
 free_map_lem User = refl
 free_map_lem Group = refl
 
@@ -45,7 +45,7 @@ free_state User = refl
 free_state Group = refl
 
 -- tables with no process and no namespace
-empty_agrees : Agrees empty (λ (i : ℕ). false) (λ (i : ℕ). false) (λ (i : ℕ). 0) (λ (i : ℕ). 0) (λ (i : ℕ). 0) (λ (k : Kind) (i : ℕ). none) (λ (k : Kind) (i : ℕ). record { three = zero_ids; supplementary = [] })
+empty_agrees : Agrees empty (λ (i : ℕ). false) (λ (i : ℕ). false) (λ (i : ℕ). 0) (λ (i : ℕ). 0) (λ (i : ℕ). 0) (λ (k : Kind) (i : ℕ). None) (λ (k : Kind) (i : ℕ). record { three = zero_ids; supplementary = [] })
 unfolding process_at namespace_at
 empty_agrees = record {
   processes_length = length-replicate process_places free_process;
@@ -65,7 +65,7 @@ first_ids : (k : Kind) → held_in k first_process ≡ record { three = zero_ids
 first_ids User = refl
 first_ids Group = refl
 
-root_map : (k : Kind) (i : ℕ) → cond (eqb i 0) (written_in (map_in k root_namespace)) none ≡ written_of k [] i
+root_map : (k : Kind) (i : ℕ) → cond (eqb i 0) (written_in (map_in k root_namespace)) None ≡ written_of k [] i
 unfolding written_of
 root_map User i = refl
 root_map Group i = refl
@@ -110,7 +110,7 @@ root_started : (k : Kind) → StartedAt [] k 0 no_starts
 unfolding Started written_of parent_of
 root_started k = (top {x = 0} {y = 0} refl refl (omega arith), tt)
 
-none_written : (k : Kind) (n : ℕ) → eqb n 0 ≡ false → written_of k [] n ≡ none
+none_written : (k : Kind) (n : ℕ) → eqb n 0 ≡ false → written_of k [] n ≡ None
 unfolding written_of
 none_written k n t = rw t
 

@@ -1,10 +1,10 @@
 -- Fork, clone, unshare and setns, and the reads and questions: what each leaves agrees with its history, and it was
 -- allowed. Assumes nothing.
+use Rattle.std.specs.Prelude.{Option, Some, None}
 use Prim.Native.Nat.{ℕ, zero, suc}
 use mathlib.Core.Path.{◌≡◌, refl, sym, ap, ◌∙◌}
 use mathlib.Core.Bool.{Bool, true, false, cond, true≢false}
 use mathlib.Core.List.{List, ◌∷◌}
-use mathlib.Core.Option.{Option, none}
 use native.Mathlib.Numerals.{add-one}
 use native.Mathlib.Omega.{arith}
 use lib.Dec.{eqb, leb}
@@ -18,7 +18,6 @@ use Rattle.records.specs.declared.Process.{Process}
 use Rattle.records.specs.declared.Namespace.{Namespace}
 use Rattle.records.specs.declared.MapState.TheVariants.{Unwritten}
 use Rattle.records.specs.Records.{map_in}
-use Rattle.tables.specs.declared.find.Found.TheVariants.{At}
 use Rattle.tables.specs.Tables.{State, process_at, namespace_at, put_process, put_namespace, max_level}
 use Rattle.tables.specs.Find.{namespace_named, free_process_place, free_namespace_place, caller_named, process_number}
 use Rattle.tables.specs.Reply.{Outcome}
@@ -55,12 +54,12 @@ After h c text list o = Next h (happened_by c text list o.reply) o.tables
 
 module _ (by : Translation) (s : State) (h : List Event) (a : Agreed s h) (b : Beside s h) (d : SoundAt h) (text list : List ℕ) where
   -- a child has as many groups as the caller
-  count_after : (j q c i : ℕ) → caller_named s c ≡ At i
+  count_after : (j q c i : ℕ) → caller_named s c ≡ Some i
       → cond (eqb j q) (process_at s i).supplementary.count (length (held_of Group h (suc j)).supplementary) ≡ length (cond (eqb (suc j) (process_number q)) (held_of Group h c) (held_of Group h (suc j))).supplementary
   count_after j q c i e = rw (next_number j q, caller_count s h a c i e) (sym (cond_ap (λ (m : Held). length m.supplementary) (eqb j q) (held_of Group h c) (held_of Group h (suc j))))
 
   -- ---- fork
-  forked_next : (c i q : ℕ) → caller_named s c ≡ At i → free_process_place s ≡ At q → Next h (forked c (process_number q)) (put_process s q (process_at s i))
+  forked_next : (c i q : ℕ) → caller_named s c ≡ Some i → free_process_place s ≡ Some q → Next h (forked c (process_number q)) (put_process s q (process_at s i))
   unfolding is_process is_namespace place_of parent_of level_of written_of held_of
   forked_next c i q e f = record {
     agree = stores_process s _ _ _ _ _ _ _ a q (process_at s i) (free_process_lem s q f).0 _ _ _
@@ -80,7 +79,7 @@ module _ (by : Translation) (s : State) (h : List Event) (a : Agreed s h) (b : B
   fork_next c = fork_case by s (After h (Fork c) text list) (λ e i. nothing_happened s h a b) c (λ i q e f. forked_next c i q e f)
 
   -- ---- a new namespace
-  fresh_map : (k : Kind) (p : Process) (n : Namespace) → written_in (map_in k (below p n)) ≡ none
+  fresh_map : (k : Kind) (p : Process) (n : Namespace) → written_in (map_in k (below p n)) ≡ None
   unfolding below
   fresh_map User p n = refl
   fresh_map Group p n = refl
@@ -95,7 +94,7 @@ module _ (by : Translation) (s : State) (h : List Event) (a : Agreed s h) (b : B
   entered_ids User p n = refl
   entered_ids Group p n = refl
 
-  module _ (c p n : ℕ) (e : caller_named s c ≡ At p) (g : free_namespace_place s ≡ At n) (r : leb max_level (namespace_at s (process_at s p).namespace).level ≡ false) where
+  module _ (c p n : ℕ) (e : caller_named s c ≡ Some p) (g : free_namespace_place s ≡ Some n) (r : leb max_level (namespace_at s (process_at s p).namespace).level ≡ false) where
     abbrev own : Namespace
     own = namespace_at s (process_at s p).namespace
 
@@ -138,7 +137,7 @@ module _ (by : Translation) (s : State) (h : List Event) (a : Agreed s h) (b : B
         (λ k. ap (λ (w : ℕ → Option (List Line)). or_none (w n)) (same k) ∙ ap or_none (d.made k n unused))
         (keeps_beside s (new ∷ h) (event_kept new h allowed d s same b) _ _)
 
-    new_child : (q : ℕ) → free_process_place s ≡ At q → NewProcess h c (process_number q) × NewNamespace h c n
+    new_child : (q : ℕ) → free_process_place s ≡ Some q → NewProcess h c (process_number q) × NewNamespace h c n
     new_child q f = (
       record {
         caller = caller_live s h a c p e;
@@ -148,7 +147,7 @@ module _ (by : Translation) (s : State) (h : List Event) (a : Agreed s h) (b : B
       new_namespace_lem,
     )
 
-    cloned_next : (q : ℕ) → free_process_place s ≡ At q → Next h (cloned c (process_number q) n) (put_process (with_child s p n) q (entered (process_at s p) n))
+    cloned_next : (q : ℕ) → free_process_place s ≡ Some q → Next h (cloned c (process_number q) n) (put_process (with_child s p n) q (entered (process_at s p) n))
     unfolding is_process is_namespace place_of parent_of level_of written_of held_of entered
     cloned_next q f = record {
       agree = stores_process (with_child s p n) _ _ _ _ _ _ _ with_child_lem q (entered (process_at s p) n) (free_process_lem s q f).0 _ _ _
@@ -197,7 +196,7 @@ module _ (by : Translation) (s : State) (h : List Event) (a : Agreed s h) (b : B
       (here (sym (a.namespace_parent n) ∙ eqb-true (namespace_at s n).parent own (and_left _ (eqb (namespace_at s n).owner euid) o))))
       (λ o. deeper (eqb-false n 0 z) (rw (a.namespace_parent n) at (reaches own euid mine k (namespace_at s n).parent (sym (rw (t, z, o)) ∙ e))))))
 
-  joined_next : (c name p n : ℕ) → caller_named s c ≡ At p → namespace_named s p name ≡ At n → capable_in s (process_at s p) n cap_sys_admin ≡ true → Next h (joined c name) (put_process s p (entered (process_at s p) n))
+  joined_next : (c name p n : ℕ) → caller_named s c ≡ Some p → namespace_named s p name ≡ Some n → capable_in s (process_at s p) n cap_sys_admin ≡ true → Next h (joined c name) (put_process s p (entered (process_at s p) n))
   unfolding is_process is_namespace place_of parent_of level_of written_of held_of entered capable_in
   joined_next c name p n e f t = record {
     agree = stores_process s _ _ _ _ _ _ _ a p (entered (process_at s p) n) (process_in_range s p (named s c p e).1) _ _ _

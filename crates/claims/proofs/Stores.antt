@@ -1,4 +1,5 @@
 -- Reads after stores, at every place, and what the finds find. Assumes nothing.
+use Rattle.std.specs.Prelude.{Some, None}
 use Prim.Native.Nat.{ℕ, suc, ◌-◌, ◌≤◌, ◌<◌}
 use mathlib.Core.Path.{◌≡◌, refl, sym, ap, ◌∙◌}
 use mathlib.Core.Bool.{Bool, true, false, cond, ◌&&◌, true≢false}
@@ -13,7 +14,6 @@ use Rattle.records.specs.declared.Namespace.{Namespace}
 use Rattle.records.specs.declared.Kind.{Kind}
 use Rattle.records.specs.declared.Kind.TheVariants.{User, Group}
 use Rattle.records.specs.Records.{free_process, free_namespace, no_starts}
-use Rattle.tables.specs.declared.find.Found.TheVariants.{At, Nothing}
 use Rattle.tables.specs.Tables.{State, process_at, namespace_at, starts_by, starts_at, put_process, put_namespace, put_starts}
 use Rattle.tables.specs.Find.{caller_named, process_named, namespace_named, free_from, free_process_place, free_namespace_place, process_number}
 use Rattle.prelude.proofs.Tests.{by_test, test_same}
@@ -63,11 +63,11 @@ namespace_in_range s = live_in_range (λ (n : Namespace). n.live) s.namespaces f
 
 -- ---- what the finds find
 
-two_finds : {i : ℕ} → Nothing ≡ At i → ⊥
+two_finds : {i : ℕ} → None ≡ Some i → ⊥
 two_finds e = let z : ◌≡◌ {A = ℕ} 0 1 = cc in omega arith
 
 -- a process that is named: its number is one more than its place, where it is live
-pub named : (s : State) (c i : ℕ) → caller_named s c ≡ At i → (c ≡ process_number i) × ((process_at s i).live ≡ true)
+pub named : (s : State) (c i : ℕ) → caller_named s c ≡ Some i → (c ≡ process_number i) × ((process_at s i).live ≡ true)
 unfolding caller_named
 named s c i e =
     by_test (eqb c 0)
@@ -75,26 +75,26 @@ named s c i e =
     (λ t.
     by_test (process_at s (c - 1)).live
     (λ r.
-    let f : At (c - 1) ≡ At i = sym (rw (t, r)) ∙ e in
+    let f : Some (c - 1) ≡ Some i = sym (rw (t, r)) ∙ e in
     let g : c - 1 ≡ i = cc in
     let n = eqb-false c 0 t in
     (omega arith, rw g at r))
     (λ r. absurd (two_finds (sym (rw (t, r)) ∙ e))))
 
-pub space_named : (s : State) (p c i : ℕ) → namespace_named s p c ≡ At i → (c ≡ i) × ((namespace_at s i).live ≡ true)
+pub space_named : (s : State) (p c i : ℕ) → namespace_named s p c ≡ Some i → (c ≡ i) × ((namespace_at s i).live ≡ true)
 unfolding namespace_named
 space_named s p c i e =
     by_test (namespace_at s c).live
-    (λ r. let f : At c ≡ At i = sym (rw r) ∙ e in let g : c ≡ i = cc in (g, rw g at r))
+    (λ r. let f : Some c ≡ Some i = sym (rw r) ∙ e in let g : c ≡ i = cc in (g, rw g at r))
     (λ r. absurd (two_finds (sym (rw r) ∙ e)))
 
 -- a process that another one names is found as a caller is
-pub process_named_lem : (s : State) (p name i : ℕ) → process_named s p name ≡ At i → caller_named s name ≡ At i
+pub process_named_lem : (s : State) (p name i : ℕ) → process_named s p name ≡ Some i → caller_named s name ≡ Some i
 unfolding process_named
 process_named_lem s p name i e = e
 
 -- a place that is free is in range and not live
-free_at : {A : Type 0} (live : A → Bool) (d : A) (k : ℕ) (xs : List A) (i : ℕ) → free_from live k xs ≡ At i → (k ≤ i) × (i - k < length xs) × (live (get_or xs (i - k) d) ≡ false)
+free_at : {A : Type 0} (live : A → Bool) (d : A) (k : ℕ) (xs : List A) (i : ℕ) → free_from live k xs ≡ Some i → (k ≤ i) × (i - k < length xs) × (live (get_or xs (i - k) d) ≡ false)
 unfolding free_from
 free_at live d k [] i e = absurd (two_finds e)
 free_at live d k (x ∷ xs) i e =
@@ -104,16 +104,16 @@ free_at live d k (x ∷ xs) i e =
     let f : i - k ≡ suc (i - suc k) = omega (arith, r.0) in
     (omega (arith, r.0), omega (arith, r.0, r.1), rw f r.2))
     (λ t.
-    let f : At k ≡ At i = sym (rw t) ∙ e in
+    let f : Some k ≡ Some i = sym (rw t) ∙ e in
     let g : k ≡ i = cc in
     let z : i - k ≡ 0 = omega arith in
     (omega arith, omega arith, rw z t))
 
-pub free_process_lem : (s : State) (i : ℕ) → free_process_place s ≡ At i → (i < length s.processes) × ((process_at s i).live ≡ false)
+pub free_process_lem : (s : State) (i : ℕ) → free_process_place s ≡ Some i → (i < length s.processes) × ((process_at s i).live ≡ false)
 unfolding free_process_place process_at
 free_process_lem s i e = let r = free_at (λ (p : Process). p.live) free_process 0 s.processes i e in let z : i - 0 ≡ i = omega arith in (rw z at r.1, rw z at r.2)
 
-pub free_namespace_lem : (s : State) (i : ℕ) → free_namespace_place s ≡ At i → (i < length s.namespaces) × ((namespace_at s i).live ≡ false)
+pub free_namespace_lem : (s : State) (i : ℕ) → free_namespace_place s ≡ Some i → (i < length s.namespaces) × ((namespace_at s i).live ≡ false)
 unfolding free_namespace_place namespace_at
 free_namespace_lem s i e = let r = free_at (λ (n : Namespace). n.live) free_namespace 0 s.namespaces i e in let z : i - 0 ≡ i = omega arith in (rw z at r.1, rw z at r.2)
 

@@ -1,12 +1,11 @@
 -- The theorem over every list of calls: demand 3, entire. Assumes nothing.
+use Rattle.std.specs.Prelude.{Option, Some, None}
 use Prim.Native.Nat.{ℕ, ◌<◌, ◌^◌}
 use mathlib.Core.Path.{◌≡◌, refl, sym, ap, ◌∙◌, subst}
 use mathlib.Core.Bool.{true≢false}
 use mathlib.Core.List.{List, [], ◌∷◌, ◌++◌}
 use mathlib.Core.Logic.{◌↔◌}
 use native.Mathlib.Omega.{arith}
-use Rattle.idmap.specs.declared.Translated.{Translated}
-use Rattle.idmap.specs.declared.Translated.TheVariants.{Id, Unmapped}
 use Rattle.idmap.proofs.Translation.{two_answers}
 use Rattle.records.specs.declared.Kind.{Kind}
 use Rattle.tables.specs.Tables.{State, initial_tables}
@@ -64,17 +63,17 @@ no_reply : {x : ℕ} → id x ≡ unmapped → ⊥
 no_reply e = let z : ◌≡◌ {A = ℕ} 0 1 = cc in omega arith
 
 -- an answer says what the translation has
-answers : (t : Translated) (R : ℕ → Type 0) → ((y : ℕ) → (t ≡ Id y) ↔ R y) → Answers (translated t) R
-answers (Id x) R f r = (
-  (λ y. ((λ e. let g : x ≡ y = cc in (f y).0 (ap Id g)), (λ q. let g : Id x ≡ Id y = (f y).1 q in let i : x ≡ y = cc in ap id i))),
+answers : (t : Option ℕ) (R : ℕ → Type 0) → ((y : ℕ) → (t ≡ Some y) ↔ R y) → Answers (translated t) R
+answers (Some x) R f r = (
+  (λ y. ((λ e. let g : x ≡ y = cc in (f y).0 (ap Some g)), (λ q. let g : Some x ≡ Some y = (f y).1 q in let i : x ≡ y = cc in ap id i))),
   ((λ e. absurd (no_reply e)), (λ g. absurd (g x ((f x).0 refl)))),
 )
-answers Unmapped R f r =
+answers None R f r =
     ((λ y. ((λ e. absurd (no_reply (sym e))), (λ q. absurd (two_answers ((f y).1 q))))), ((λ e y q. two_answers ((f y).1 q)), (λ g. refl)))
 
 module _ (by : Translation) (s : State) (h : List Event) (d : SoundAt h) (u : by ≡ by_history h) where
   -- what the tables translate to is what the history does
-  pub by_history_lem : (k : Kind) (w : Way) (n x : ℕ) → x < 2 ^ 32 → (y : ℕ) → (turned by k w n x ≡ Id y) ↔ TranslatesTo h k w n x y
+  pub by_history_lem : (k : Kind) (w : Way) (n x : ℕ) → x < 2 ^ 32 → (y : ℕ) → (turned by k w n x ≡ Some y) ↔ TranslatesTo h k w n x y
   by_history_lem k Out n x small y = (
     (λ e. stands_is h d k n x y small (sym ((λ i. (u i).out k n x)) ∙ e)),
     (λ o. (λ i. (u i).out k n x) ∙ is_stands h d k n x y o),

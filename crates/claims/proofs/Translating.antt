@@ -1,4 +1,5 @@
 -- Translation by the tables is translation by the history, level by level. Assumes nothing.
+use Rattle.std.specs.Prelude.{None}
 use Prim.Native.Nat.{ℕ, zero, suc, ◌<◌, ◌%◌, ◌^◌}
 use mathlib.Core.Path.{◌≡◌, sym, ap, ◌∙◌}
 use mathlib.Core.Bool.{true}
@@ -7,7 +8,6 @@ use native.Mathlib.Omega.{arith}
 use lib.Dec.{eqb}
 use borrow.Author.Tests.{eq-eqb, ne_eqb, eqb-true, eqb-false}
 use Rattle.idmap.specs.declared.Line.{Line}
-use Rattle.idmap.specs.declared.Translated.TheVariants.{Unmapped}
 use Rattle.idmap.specs.Lookup.{out, then_id, flip, back}
 use Rattle.idmap.specs.Ranges.{lies_whole}
 use Rattle.idmap.specs.Good.{no_id, good_of}
@@ -39,7 +39,7 @@ low_out up lines zero n x z = rw (ne_eqb n 0 z)
 low_out up lines (suc k) n x z = rw (ne_eqb n 0 z, out_low (lines n) x)
 
 -- the ID 'no ID' is in no line
-no_back : (ls : List Line) → good_of ls ≡ true → back ls no_id ≡ Unmapped
+no_back : (ls : List Line) → good_of ls ≡ true → back ls no_id ≡ None
 no_back ls g =
     by_translated (back ls no_id)
     (λ x e. let p = parent_small ls x no_id g (back_pairs ls x no_id (omega arith) g e) in absurd (omega arith))
@@ -50,7 +50,7 @@ first_back : (ls : List Line) (y : ℕ) → good_of ls ≡ true → then_id (its
 first_back ls y g =
     by_test (eqb (y % 2 ^ 32) no_id)
     (λ t.
-    let same : back ls y ≡ Unmapped = sym (out_low (map flip ls) y) ∙ ap (back ls) (eqb-true (y % 2 ^ 32) no_id t) ∙ no_back ls g in
+    let same : back ls y ≡ None = sym (out_low (map flip ls) y) ∙ ap (back ls) (eqb-true (y % 2 ^ 32) no_id t) ∙ no_back ls g in
     by_test (eqb y no_id) (λ u. rw (t, u)) (λ u. rw (t, u) (sym same)))
     (λ t.
     let f = eqb-false (y % 2 ^ 32) no_id t in

@@ -1,23 +1,19 @@
 -- Document 01's step reads nothing of what the code keeps beside the maps, on any tables. Assumes nothing.
+use Rattle.std.specs.Prelude.{Option, Some, None}
 use Prim.Native.Nat.{ℕ, zero, suc}
 use mathlib.Core.Path.{◌≡◌, refl, ap}
 use mathlib.Core.Bool.{Bool, true, false, cond, ◌||◌}
 use mathlib.Core.List.{List, [], ◌∷◌}
-use mathlib.Core.Option.{Option, none, some}
 use lib.Dec.{eqb, leb, ltb}
 use lib.ListN.{length}
 use Rattle.records.specs.declared.Namespace.{Namespace}
 use Rattle.capability.specs.Sets.{is_within, cap_sys_admin, cap_setgid, cap_last_cap}
 use Rattle.idmap.specs.declared.Line.{Line}
-use Rattle.idmap.specs.declared.Translated.{Translated}
-use Rattle.idmap.specs.declared.Translated.TheVariants.{Id, Unmapped}
 use Rattle.idmap.specs.Text.{map_lines, max_text_bytes}
 use Rattle.records.specs.declared.Kind.{Kind}
 use Rattle.records.specs.declared.Ids.{Ids}
 use Rattle.records.specs.declared.Process.{Process}
 use Rattle.records.specs.Records.{ids_in, map_in, set_id_of, is_written, max_groups}
-use Rattle.tables.specs.declared.find.Found.{Found}
-use Rattle.tables.specs.declared.find.Found.TheVariants.{At, Nothing}
 use Rattle.tables.specs.Tables.{State, process_at, namespace_at, put_map, max_level}
 use Rattle.tables.specs.Find.{process_named, namespace_named, free_process_place, free_namespace_place, caller_named}
 use Rattle.tables.specs.Reply.{Reply, yes', no', Outcome, on_found}
@@ -34,32 +30,32 @@ use Rattle.claims.specs.AsDocument.{bare, bare_step, Unread}
 
 -- ---- two definitions that go by the same tests come to the same
 module _ {A : Type 0} {B : Type 0} (g : A → B) where
-  found_same : (f : Found) {x x' : A} {n n' : ℕ → A} → g x ≡ g x' → ((i : ℕ) → g (n i) ≡ g (n' i)) → g (on_found f x n) ≡ g (on_found f x' n')
-  found_same (At i) p q = q i
-  found_same Nothing p q = p
+  found_same : (f : Option ℕ) {x x' : A} {n n' : ℕ → A} → g x ≡ g x' → ((i : ℕ) → g (n i) ≡ g (n' i)) → g (on_found f x n) ≡ g (on_found f x' n')
+  found_same (Some i) p q = q i
+  found_same None p q = p
 
   test_same : (t t' : Bool) {x x' y y' : A} → t ≡ t' → g x ≡ g x' → g y ≡ g y' → g (cond t x y) ≡ g (cond t' x' y')
   test_same true t' e p q = rw (← e) p
   test_same false t' e p q = rw (← e) q
 
   lines_same : (o : Option (List Line)) {x x' : A} {n n' : List Line → A} → g x ≡ g x' → ((ls : List Line) → g (n ls) ≡ g (n' ls)) → g (then_lines o x n) ≡ g (then_lines o x' n')
-  lines_same none p q = p
-  lines_same (some ls) p q = q ls
+  lines_same None p q = p
+  lines_same (Some ls) p q = q ls
 
   setting_same : (o : Option Bool) {x x' y y' z z' : A} → g x ≡ g x' → g y ≡ g y' → g z ≡ g z' → g (then_setting o x y z) ≡ g (then_setting o x' y' z')
-  setting_same none p q r = p
-  setting_same (some true) p q r = q
-  setting_same (some false) p q r = r
+  setting_same None p q r = p
+  setting_same (Some true) p q r = q
+  setting_same (Some false) p q r = r
 
-  three_same : (t u v : Translated) {x x' : A} {n n' : ℕ → ℕ → ℕ → A} → g x ≡ g x' → ((a b c : ℕ) → g (n a b c) ≡ g (n' a b c)) → g (then_three t u v x n) ≡ g (then_three t u v x' n')
-  three_same (Id a) (Id b) (Id c) p q = q a b c
-  three_same (Id a) (Id b) Unmapped p q = p
-  three_same (Id a) Unmapped v p q = p
-  three_same Unmapped u v p q = p
+  three_same : (t u v : Option ℕ) {x x' : A} {n n' : ℕ → ℕ → ℕ → A} → g x ≡ g x' → ((a b c : ℕ) → g (n a b c) ≡ g (n' a b c)) → g (then_three t u v x n) ≡ g (then_three t u v x' n')
+  three_same (Some a) (Some b) (Some c) p q = q a b c
+  three_same (Some a) (Some b) None p q = p
+  three_same (Some a) None v p q = p
+  three_same None u v p q = p
 
   list_same : (o : Option (List ℕ)) {x x' : A} {n n' : List ℕ → A} → g x ≡ g x' → ((l : List ℕ) → g (n l) ≡ g (n' l)) → g (then_list o x n) ≡ g (then_list o x' n')
-  list_same none p q = p
-  list_same (some l) p q = q l
+  list_same None p q = p
+  list_same (Some l) p q = q l
 
 abbrev bare_out : Outcome → Outcome
 bare_out o = record { reply = o.reply; tables = bare o.tables }

@@ -1,10 +1,9 @@
 -- The definitions of the calls are total: they bound their walks, and a place past the end reads as free. On tables
 -- that a list of calls leaves no bound is met, so that the definitions are document 01's; and what stands in these
 -- tables is what document 01 lets stand there. `bounds` of proofs/Bounds.antt proves it of every list. Assumes nothing.
-use Rattle.std.specs.Prelude.{ℕ, ◌≤◌, ◌<◌, ◌^◌, ◌≡◌, true, List, ◌↔◌, length}
+use Rattle.std.specs.Prelude.{ℕ, ◌≤◌, ◌<◌, ◌^◌, ◌≡◌, true, List, ◌↔◌, length, Some, None}
 use Rattle.capability.specs.Sets.{holds}
 use Rattle.idmap.specs.declared.Line.{Line}
-use Rattle.idmap.specs.declared.Translated.TheVariants.{Id, Unmapped}
 use Rattle.idmap.specs.Good.{max_lines, no_id, Good}
 use Rattle.idmap.specs.Ranges.{lies_whole, HasLine}
 use Rattle.records.specs.declared.Kind.{Kind}
@@ -48,8 +47,8 @@ module _ (rs : List Request) where
     pub walk : (i n c : ℕ) → (process_at s i).live ≡ true → (namespace_at s n).live ≡ true
         → (capable_in s (process_at s i) n c ≡ true) ↔ HoldsCapability s (process_at s i) c n
     -- translation gives an ID exactly where the relations over the history's parents and maps do
-    pub out : (k : Kind) (n x y : ℕ) → x < 2 ^ 32 → ((by_levels s).out k n x ≡ Id y) ↔ OutOf k h n x y
-    pub back : (k : Kind) (n y x : ℕ) → y < 2 ^ 32 → ((by_levels s).back k n y ≡ Id x) ↔ BackOf k h n y x
+    pub out : (k : Kind) (n x y : ℕ) → x < 2 ^ 32 → ((by_levels s).out k n x ≡ Some y) ↔ OutOf k h n x y
+    pub back : (k : Kind) (n y x : ℕ) → y < 2 ^ 32 → ((by_levels s).back k n y ≡ Some x) ↔ BackOf k h n y x
     -- every live record is in range, and what it names is live
     pub process_in_range : (i : ℕ) → (process_at s i).live ≡ true → i < process_places
     pub namespace_in_range : (n : ℕ) → (namespace_at s n).live ≡ true → n < namespace_places
@@ -70,4 +69,4 @@ module _ (rs : List Request) where
     pub covered : (k : Kind) (n z : ℕ) → OnParentSide (lines_at s k n) z → HasLine (lines_at s k (namespace_at s n).parent) z
     -- an unwritten map translates nothing, out or back
     pub unwritten : (k : Kind) (n x : ℕ) → (map_in k (namespace_at s n)).state ≡ Unwritten
-        → ((by_levels s).out k n x ≡ Unmapped) × ((by_levels s).back k n x ≡ Unmapped)
+        → ((by_levels s).out k n x ≡ None) × ((by_levels s).back k n x ≡ None)

@@ -1,7 +1,6 @@
 -- What holds after every list of calls: demand 3, sentence by sentence. `theorem` of proofs/Theorem.antt proves it of
 -- every list. Assumes nothing.
-use Rattle.std.specs.Prelude.{ℕ, ◌<◌, ◌^◌, ◌≡◌, true, false, List, ◌∷◌, ◌++◌, ◌⊎◌, ◌↔◌}
-use Rattle.idmap.specs.declared.Translated.TheVariants.{Id}
+use Rattle.std.specs.Prelude.{ℕ, ◌<◌, ◌^◌, ◌≡◌, true, false, List, ◌∷◌, ◌++◌, ◌⊎◌, ◌↔◌, Some}
 use Rattle.records.specs.declared.Kind.{Kind}
 use Rattle.tables.specs.Reply.{Reply, id, unmapped, is_refused}
 use Rattle.credentials.specs.declared.translate.Way.{Way}
@@ -61,7 +60,7 @@ module _ (rs : List Request) where
     pub translates : (new old : List Entry) (e : Entry) → history rs ≡ new ++ (e ∷ old) → Translates (events old) e
     -- what an ID is looked up to stand for, where an ID change or a setgroups says what a process carries, is what it
     -- stands for
-    pub looked_up : (k : Kind) (n x y : ℕ) → x < 2 ^ 32 → (stands_for k h n x ≡ Id y) ↔ OutOf k h n x y
+    pub looked_up : (k : Kind) (n x y : ℕ) → x < 2 ^ 32 → (stands_for k h n x ≡ Some y) ↔ OutOf k h n x y
     -- in every namespace two different mapped IDs never stand for one kernel ID
     pub one_to_one : (k : Kind) (n x x' y : ℕ) → OutOf k h n x y → OutOf k h n x' y → x ≡ x'
     -- going out gives one kernel ID, and coming back one ID

@@ -1,9 +1,7 @@
 -- Translation level by level, as document 01 has it: over any parents and any lines, and `by_levels` over those of the
 -- tables, with document 02's ranges. Assumes nothing.
-use Rattle.std.specs.Prelude.{ℕ, zero, suc, ◌+◌, ◌<◌, ◌≡◌, cond, List, eqb, length, get_or}
+use Rattle.std.specs.Prelude.{ℕ, zero, suc, ◌+◌, ◌<◌, ◌≡◌, cond, List, eqb, length, get_or, Option, None}
 use Rattle.idmap.specs.declared.Line.{Line}
-use Rattle.idmap.specs.declared.Translated.{Translated}
-use Rattle.idmap.specs.declared.Translated.TheVariants.{Unmapped}
 use Rattle.idmap.specs.Line.{no_line}
 use Rattle.idmap.specs.Lookup.{out, then_id, back}
 use Rattle.idmap.specs.Ranges.{lies_whole}
@@ -35,12 +33,12 @@ module _ (up : ℕ → ℕ) (lines : ℕ → List Line) where
     down : {n x y : ℕ} → (n ≡ 0 → ⊥) → (z : ℕ) → ComesBack (up n) y z → Pairs (lines n) x z → ComesBack n y x
 
   -- the same two as lookups, in k steps at most
-  unfoldable pub out_by : ℕ → ℕ → ℕ → Translated
-  out_by zero n x = cond (eqb n 0) (itself x) Unmapped
+  unfoldable pub out_by : ℕ → ℕ → ℕ → Option ℕ
+  out_by zero n x = cond (eqb n 0) (itself x) None
   out_by (suc k) n x = cond (eqb n 0) (itself x) (then_id (out (lines n) x) (λ y. out_by k (up n) y))
 
-  unfoldable pub back_by : ℕ → ℕ → ℕ → Translated
-  back_by zero n y = cond (eqb n 0) (itself y) Unmapped
+  unfoldable pub back_by : ℕ → ℕ → ℕ → Option ℕ
+  back_by zero n y = cond (eqb n 0) (itself y) None
   back_by (suc k) n y = cond (eqb n 0) (itself y) (then_id (back_by k (up n) y) (λ z. back (lines n) z))
 
 -- the papers' translation: by the parents and the written lines that the tables have, in as many steps as the level

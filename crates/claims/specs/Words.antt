@@ -1,11 +1,8 @@
 -- The words of demand 3, each by the calls and their answers alone: document 01, 'Lists of calls'. A list of events has
 -- the newest first, so each definition says what the newest does and leaves the rest to the events before it. Assumes
 -- nothing.
-use Rattle.std.specs.Prelude.{ℕ, suc, Bool, true, false, cond, ◌&&◌, List, [], ◌∷◌, map, eqb}
-use Rattle.std.proofs.Math.Option.{Option, none, some}
+use Rattle.std.specs.Prelude.{ℕ, suc, Bool, true, false, cond, ◌&&◌, List, [], ◌∷◌, map, eqb, Option, Some, None}
 use Rattle.idmap.specs.declared.Line.{Line}
-use Rattle.idmap.specs.declared.Translated.{Translated}
-use Rattle.idmap.specs.declared.Translated.TheVariants.{Id}
 use Rattle.idmap.specs.Good.{no_id}
 use Rattle.idmap.specs.Lookup.{or_no_id}
 use Rattle.idmap.specs.Text.{map_lines}
@@ -87,7 +84,7 @@ same_kind Group Group = true
 -- a namespace's map is the lines of the map write for it answered 'done', unwritten until then; namespace 0's is its
 -- fixed line
 unfoldable pub written_of : Kind → List Event → ℕ → Option (List Line)
-written_of k [] m = cond (eqb m 0) (some (fixed_line ∷ [])) none
+written_of k [] m = cond (eqb m 0) (Some (fixed_line ∷ [])) None
 written_of k (other ∷ h) m = written_of k h m
 written_of k (forked c q ∷ h) m = written_of k h m
 written_of k (cloned c q n ∷ h) m = written_of k h m
@@ -99,14 +96,14 @@ written_of k (grouped c list ∷ h) m = written_of k h m
 
 -- the lines of a map: none while it is unwritten
 abbrev pub or_none : Option (List Line) → List Line
-or_none none = []
-or_none (some ls) = ls
+or_none None = []
+or_none (Some ls) = ls
 
 abbrev pub written_lines : Kind → List Event → ℕ → List Line
 written_lines k h m = or_none (written_of k h m)
 
 -- what an ID of a namespace stands for, with the maps of the moment
-abbrev pub stands_for : Kind → List Event → ℕ → ℕ → Translated
+abbrev pub stands_for : Kind → List Event → ℕ → ℕ → Option ℕ
 stands_for k h n x = out_by (parent_of h) (written_lines k h) (level_of h n) n x
 
 -- the IDs of a kind that a process carries, all station-wide: real, effective and saved, and the supplementary ones,
@@ -120,8 +117,8 @@ held c = c.three.real ∷ c.three.effective ∷ c.three.saved ∷ c.supplementar
 
 -- one of the three IDs of an ID change: 'no ID' leaves it as it is, another is what it stands for in the caller's
 -- namespace
-abbrev pub chosen_of : Kind → List Event → ℕ → ℕ → ℕ → Translated
-chosen_of k h n x old = cond (eqb x no_id) (Id old) (stands_for k h n x)
+abbrev pub chosen_of : Kind → List Event → ℕ → ℕ → ℕ → Option ℕ
+chosen_of k h n x old = cond (eqb x no_id) (Some old) (stands_for k h n x)
 
 abbrev pub changed_ids : Kind → List Event → ℕ → Ids → Ids → Ids
 changed_ids k h n new old = record {

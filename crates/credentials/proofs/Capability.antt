@@ -1,5 +1,6 @@
 -- The capability question and drop, in the words of the code: each law's premises are what a place knows. Assumes
 -- nothing.
+use Rattle.std.specs.Prelude.{Option, Some, None}
 use Prim.Native.Nat.{ℕ, ◌≤◌, ◌<◌, ◌^◌}
 use mathlib.Core.Path.{◌≡◌, refl, sym, ◌∙◌}
 use mathlib.Core.Bool.{Bool, true, false}
@@ -14,8 +15,6 @@ use Rattle.records.specs.declared.Process.{Process}
 use Rattle.tables.specs.Tables.{State, tables_of, process_at, put_process}
 use Rattle.tables.specs.Find.{caller_named, namespace_named}
 use Rattle.tables.specs.Reply.{refused, yes', no', Promise}
-use Rattle.tables.specs.declared.find.Found.{Found}
-use Rattle.tables.specs.declared.find.Found.TheVariants.{At, Nothing}
 use Rattle.tables.specs.declared.answer.Errno.TheVariants.{EPERM, ESRCH}
 use Rattle.tables.specs.declared.answer.Answer.TheVariants.{Refused, Done}
 use Rattle.tables.proofs.Promises.{refuses, answers}
@@ -23,17 +22,17 @@ use Rattle.hierarchy.specs.Walks.{capable_in}
 use Rattle.credentials.specs.Calls.{capable_reply, with_sets, drop_of}
 
 -- ---- the question
-module _ (s : State) (c name number : ℕ) (r : Found) (named : r ≡ caller_named s c) where
-  pub ask_nobody : r ≡ Nothing → refused 3 ≡ capable_reply s c name number
+module _ (s : State) (c name number : ℕ) (r : Option ℕ) (named : r ≡ caller_named s c) where
+  pub ask_nobody : r ≡ None → refused 3 ≡ capable_reply s c name number
   unfolding capable_reply
   ask_nobody e = rw (← named, e)
 
-  module _ (i : ℕ) (at : r ≡ At i) (f : Found) (space : f ≡ namespace_named s i name) where
-    pub ask_nowhere : f ≡ Nothing → refused 3 ≡ capable_reply s c name number
+  module _ (i : ℕ) (at : r ≡ Some i) (f : Option ℕ) (space : f ≡ namespace_named s i name) where
+    pub ask_nowhere : f ≡ None → refused 3 ≡ capable_reply s c name number
     unfolding capable_reply
     ask_nowhere e = rw (← named, at, ← space, e)
 
-    module _ (n : ℕ) (in-it : f ≡ At n) where
+    module _ (n : ℕ) (in-it : f ≡ Some n) where
       pub ask_no_number : cap_last_cap < number → refused 22 ≡ capable_reply s c name number
       unfolding capable_reply
       ask_no_number h = rw (← named, at, ← space, in-it, lt-ltb cap_last_cap number h)
@@ -61,12 +60,12 @@ module _ (p : Process) (permitted effective : ℕ) (small : permitted < 2 ^ 64) 
       rw (first, second)
 
 -- ---- drop
-module _ (l : List ℕ) (c permitted effective : ℕ) (r : Found) (named : r ≡ caller_named (tables_of l) c) where
-  pub drop_nobody : r ≡ Nothing → Promise (Refused ESRCH) l l (drop_of (tables_of l) c permitted effective)
+module _ (l : List ℕ) (c permitted effective : ℕ) (r : Option ℕ) (named : r ≡ caller_named (tables_of l) c) where
+  pub drop_nobody : r ≡ None → Promise (Refused ESRCH) l l (drop_of (tables_of l) c permitted effective)
   unfolding drop_of
   drop_nobody e = refuses ESRCH l (drop_of (tables_of l) c permitted effective) (rw (← named, e))
 
-  module _ (i : ℕ) (at : r ≡ At i) (p : Process) (read : p ≡ process_at (tables_of l) i) (new : CapabilitySet)
+  module _ (i : ℕ) (at : r ≡ Some i) (p : Process) (read : p ≡ process_at (tables_of l) i) (new : CapabilitySet)
       (given : new ≡ record { bits = permitted }) (t : Bool) (tested : t ≡ is_within new.bits p.permitted.bits) where
     part_tested : t ≡ is_within permitted p.permitted.bits
     part_tested = rw given at tested

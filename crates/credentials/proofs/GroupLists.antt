@@ -1,9 +1,9 @@
 -- Setgroups, in the words of the code: each law's premises are what a place knows. Assumes nothing.
+use Rattle.std.specs.Prelude.{Option, Some, None}
 use Prim.Native.Nat.{ℕ, suc, ◌+◌, ◌≤◌, ◌<◌}
 use mathlib.Core.Path.{◌≡◌, refl, sym, ap, ◌∙◌}
 use mathlib.Core.Bool.{Bool, true, false, true≢false}
 use mathlib.Core.List.{List, [], ◌∷◌, ◌++◌}
-use mathlib.Core.Option.{Option, none, some}
 use native.Mathlib.Omega.{arith}
 use lib.ListN.{length, take, drop, get_or, set, replicate}
 use lib.Seq.{split_at, take_all}
@@ -13,8 +13,6 @@ use Rattle.prelude.proofs.Tests.{not_taken, not_left}
 use Rattle.prelude.specs.Lists.{cons_of, all_of}
 use Rattle.prelude.proofs.Made.{cons_first, cons_none, cons_some}
 use Rattle.capability.specs.Sets.{cap_setgid}
-use Rattle.idmap.specs.declared.Translated.{Translated}
-use Rattle.idmap.specs.declared.Translated.TheVariants.{Id, Unmapped}
 use Rattle.records.specs.declared.Kind.TheVariants.{Group}
 use Rattle.records.specs.declared.GroupList.{GroupList}
 use Rattle.records.specs.declared.Process.{Process}
@@ -23,8 +21,6 @@ use Rattle.records.specs.Records.{max_groups, no_groups, is_written}
 use Rattle.tables.specs.Tables.{State, tables_of, process_at, namespace_at, put_process}
 use Rattle.tables.specs.Find.{caller_named}
 use Rattle.tables.specs.Reply.{Outcome, done, refuse, Promise}
-use Rattle.tables.specs.declared.find.Found.{Found}
-use Rattle.tables.specs.declared.find.Found.TheVariants.{At, Nothing}
 use Rattle.tables.specs.declared.answer.Errno.TheVariants.{EPERM, ESRCH, EINVAL}
 use Rattle.tables.specs.declared.answer.Answer.TheVariants.{Refused, Done}
 use Rattle.tables.proofs.Promises.{refuses, answers}
@@ -37,23 +33,23 @@ use Rattle.credentials.proofs.Filled.{take_more, filled_more}
 -- ---- kernel_groups
 module _ {A B : Type 0} (f : A → Option B) where
   -- what f gives for each element, with one more
-  all_more : (l : List A) (ys : List B) (a : A) (y : B) → all_of f l ≡ some ys → f a ≡ some y → all_of f (l ++ (a ∷ [])) ≡ some (ys ++ (y ∷ []))
+  all_more : (l : List A) (ys : List B) (a : A) (y : B) → all_of f l ≡ Some ys → f a ≡ Some y → all_of f (l ++ (a ∷ [])) ≡ Some (ys ++ (y ∷ []))
   unfolding all_of cons_of
   all_more [] ys a y e g = let start : ys ≡ [] = cc in rw (g, start)
   all_more (b ∷ l) ys a y e g =
       let r = cons_some (f b) (all_of f l) ys e in
-      rw (r.2, all_more l r.1 a y r.3 g) (ap (λ (zs : List B). some (zs ++ (y ∷ []))) (sym r.4))
+      rw (r.2, all_more l r.1 a y r.3 g) (ap (λ (zs : List B). Some (zs ++ (y ∷ []))) (sym r.4))
 
   -- it gives nothing for one
-  all_none : (l : List A) (a : A) (rest : List A) → f a ≡ none → all_of f (l ++ (a ∷ rest)) ≡ none
+  all_none : (l : List A) (a : A) (rest : List A) → f a ≡ None → all_of f (l ++ (a ∷ rest)) ≡ None
   unfolding all_of
   all_none [] a rest e = rw e (cons_first (all_of f rest))
   all_none (b ∷ l) a rest e = rw (all_none l a rest e) (cons_none (f b))
 
 -- where all are mapped, the kernel IDs that are listed
-listed_all : (o : Option (List ℕ)) (g : GroupList) → listed_of o ≡ record { mapped = true; groups = g } → (ids : List ℕ) × (o ≡ some ids) × (group_list ids ≡ g)
-listed_all none g e = absurd (true≢false (sym (ap (λ (r : Listed). r.mapped) e)))
-listed_all (some ids) g e = (ids, refl, ap (λ (r : Listed). r.groups) e)
+listed_all : (o : Option (List ℕ)) (g : GroupList) → listed_of o ≡ record { mapped = true; groups = g } → (ids : List ℕ) × (o ≡ Some ids) × (group_list ids ≡ g)
+listed_all None g e = absurd (true≢false (sym (ap (λ (r : Listed). r.mapped) e)))
+listed_all (Some ids) g e = (ids, refl, ap (λ (r : Listed). r.groups) e)
 
 module _ (s : State) (n : ℕ) where
   -- the first i groups of a list are mapped, and these are their kernel IDs
@@ -68,19 +64,19 @@ module _ (s : State) (n : ℕ) where
     unfolding ListedTo kernel_groups all_of group_list
     listed_starts = refl
 
-    module _ (i : ℕ) (h : i < length list) (r : Translated) (found : r ≡ to_kernel s Group n (get_or list i 0)) where
-      pub listed_step : (ids : List ℕ) (x : ℕ) → ListedTo list ids i → length list ≤ max_groups → r ≡ Id x → ListedTo list (set ids i x) (i + 1)
+    module _ (i : ℕ) (h : i < length list) (r : Option ℕ) (found : r ≡ to_kernel s Group n (get_or list i 0)) where
+      pub listed_step : (ids : List ℕ) (x : ℕ) → ListedTo list ids i → length list ≤ max_groups → r ≡ Some x → ListedTo list (set ids i x) (i + 1)
       unfolding ListedTo kernel_groups by_kernel_starts
       listed_step ids x inv few e =
           let so_far = listed_all (all_of kernel_of (take i list)) (record { count = i; ids = ids }) inv in
-          let one : kernel_of (get_or list i 0) ≡ some x = rw (← found, e) in
+          let one : kernel_of (get_or list i 0) ≡ Some x = rw (← found, e) in
           rw (take_more list i h, all_more kernel_of (take i list) so_far.0 (get_or list i 0) x so_far.1 one, filled_more so_far.0 ids i x so_far.2 (omega arith))
 
-      pub listed_unmapped : r ≡ Unmapped → ◌≡◌ {A = Listed} (record { mapped = false; groups = no_groups }) (listed_of (kernel_groups (by_kernel_starts s) n list))
+      pub listed_unmapped : r ≡ None → ◌≡◌ {A = Listed} (record { mapped = false; groups = no_groups }) (listed_of (kernel_groups (by_kernel_starts s) n list))
       unfolding kernel_groups by_kernel_starts group_list
       listed_unmapped e =
-          let one : kernel_of (get_or list i 0) ≡ none = rw (← found, e) in
-          let all : all_of kernel_of list ≡ none = ap (all_of kernel_of) (split_at list i 0 h) ∙ all_none kernel_of (take i list) (get_or list i 0) (drop (suc i) list) one in
+          let one : kernel_of (get_or list i 0) ≡ None = rw (← found, e) in
+          let all : all_of kernel_of list ≡ None = ap (all_of kernel_of) (split_at list i 0 h) ∙ all_none kernel_of (take i list) (get_or list i 0) (drop (suc i) list) one in
           rw all
 
     pub listed_ends : (ids : List ℕ) (i : ℕ) → ListedTo list ids i → length list ≤ i
@@ -101,21 +97,21 @@ after_list s i p ids = record { reply = done; tables = put_process s i (with_lis
 
 module _ (s : State) (i : ℕ) (p : Process) (listed : Listed) where
   after_none : (o : Option (List ℕ)) → listed ≡ listed_of o → listed.mapped ≡ false → refuse s 22 ≡ then_list o (refuse s 22) (after_list s i p)
-  after_none none e t = refl
-  after_none (some ids) e t = absurd (true≢false (sym (ap (λ (a : Listed). a.mapped) e) ∙ t))
+  after_none None e t = refl
+  after_none (Some ids) e t = absurd (true≢false (sym (ap (λ (a : Listed). a.mapped) e) ∙ t))
 
   after_some : (o : Option (List ℕ)) → listed ≡ listed_of o → listed.mapped ≡ true
       → ◌≡◌ {A = Outcome} (record { reply = done; tables = put_process s i (with_list p listed.groups) }) (then_list o (refuse s 22) (after_list s i p))
   unfolding after_list
-  after_some none e t = absurd (true≢false (sym t ∙ ap (λ (a : Listed). a.mapped) e))
-  after_some (some ids) e t = rw e
+  after_some None e t = absurd (true≢false (sym t ∙ ap (λ (a : Listed). a.mapped) e))
+  after_some (Some ids) e t = rw e
 
-module _ (by : Translation) (l : List ℕ) (c : ℕ) (list : List ℕ) (r : Found) (named : r ≡ caller_named (tables_of l) c) where
-  pub groups_nobody : r ≡ Nothing → Promise (Refused ESRCH) l l (set_groups_of by (tables_of l) c list)
+module _ (by : Translation) (l : List ℕ) (c : ℕ) (list : List ℕ) (r : Option ℕ) (named : r ≡ caller_named (tables_of l) c) where
+  pub groups_nobody : r ≡ None → Promise (Refused ESRCH) l l (set_groups_of by (tables_of l) c list)
   unfolding set_groups_of
   groups_nobody e = refuses ESRCH l (set_groups_of by (tables_of l) c list) (rw (← named, e))
 
-  module _ (i : ℕ) (at : r ≡ At i) (p : Process) (read : p ≡ process_at (tables_of l) i) (t : Bool)
+  module _ (i : ℕ) (at : r ≡ Some i) (p : Process) (read : p ≡ process_at (tables_of l) i) (t : Bool)
       (able : t ≡ capable_in (tables_of l) p p.namespace cap_setgid) where
     pub groups_incapable : t ≡ false → Promise (Refused EPERM) l l (set_groups_of by (tables_of l) c list)
     unfolding set_groups_of

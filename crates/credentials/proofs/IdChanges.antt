@@ -1,4 +1,5 @@
 -- Changes of IDs, in the words of the code: each law's premises are what a place knows. Assumes nothing.
+use Rattle.std.specs.Prelude.{Option, Some, None}
 use Prim.Native.Nat.{ℕ}
 use mathlib.Core.Path.{◌≡◌, refl, sym, ◌∙◌}
 use mathlib.Core.Bool.{Bool, true, false, cond, ◌||◌}
@@ -10,8 +11,6 @@ use Rattle.prelude.proofs.Tests.{not_taken, not_left}
 use Rattle.capability.specs.declared.CapabilitySet.{CapabilitySet}
 use Rattle.capability.specs.Sets.{empty_set}
 use Rattle.idmap.specs.Good.{no_id}
-use Rattle.idmap.specs.declared.Translated.{Translated}
-use Rattle.idmap.specs.declared.Translated.TheVariants.{Id, Unmapped}
 use Rattle.records.specs.declared.Kind.{Kind}
 use Rattle.records.specs.declared.Kind.TheVariants.{User, Group}
 use Rattle.records.specs.declared.Ids.{Ids}
@@ -20,8 +19,6 @@ use Rattle.records.specs.Records.{ids_in, set_id_of}
 use Rattle.tables.specs.Tables.{State, tables_of, process_at, put_process}
 use Rattle.tables.specs.Find.{caller_named}
 use Rattle.tables.specs.Reply.{Outcome, done, refuse, unless, Promise}
-use Rattle.tables.specs.declared.find.Found.{Found}
-use Rattle.tables.specs.declared.find.Found.TheVariants.{At, Nothing}
 use Rattle.tables.specs.declared.answer.Errno.TheVariants.{EPERM, ESRCH, EINVAL}
 use Rattle.tables.specs.declared.answer.Answer.TheVariants.{Refused, Done}
 use Rattle.tables.proofs.Promises.{refuses, answers}
@@ -31,10 +28,10 @@ use Rattle.credentials.specs.Calls.{chosen, then_three, is_one_of, all_one_of, l
 
 -- ---- an ID that is given
 module _ (s : State) (kind : Kind) (n x old : ℕ) where
-  pub chosen_old : x ≡ no_id → Id old ≡ chosen (by_kernel_starts s) kind n x old
+  pub chosen_old : x ≡ no_id → Some old ≡ chosen (by_kernel_starts s) kind n x old
   chosen_old e = rw (eq-eqb x no_id e)
 
-  pub chosen_new : (r : Translated) → (x ≡ no_id → ⊥) → r ≡ to_kernel s kind n x → r ≡ chosen (by_kernel_starts s) kind n x old
+  pub chosen_new : (r : Option ℕ) → (x ≡ no_id → ⊥) → r ≡ to_kernel s kind n x → r ≡ chosen (by_kernel_starts s) kind n x old
   unfolding by_kernel_starts
   chosen_new r e q = rw (ne_eqb x no_id e) q
 
@@ -65,11 +62,11 @@ module _ (new old : Ids) (a : Bool) (ea : a ≡ is_one_of new.real old) where
     all_saved d u ed = rw (← ea, t, ← eb, u) ed
 
 -- ---- what a change of user IDs takes
-module _ (zero : Translated) (old new : Ids) where
-  pub loses_none : zero ≡ Unmapped → false ≡ loses_all zero old new
+module _ (zero : Option ℕ) (old new : Ids) where
+  pub loses_none : zero ≡ None → false ≡ loses_all zero old new
   loses_none e = rw e
 
-  module _ (z : ℕ) (e : zero ≡ Id z) (a : Bool) (ea : a ≡ is_one_of z old) where
+  module _ (z : ℕ) (e : zero ≡ Some z) (a : Bool) (ea : a ≡ is_one_of z old) where
     pub loses_unheld : a ≡ false → false ≡ loses_all zero old new
     loses_unheld t = rw (e, ← ea, t)
 
@@ -80,10 +77,10 @@ module _ (zero : Translated) (old new : Ids) where
       pub loses_three : b ≡ false → true ≡ loses_all zero old new
       loses_three u = rw (e, ← ea, t, ← eb, u)
 
-  pub effective_none : zero ≡ Unmapped → false ≡ loses_effective zero old new
+  pub effective_none : zero ≡ None → false ≡ loses_effective zero old new
   effective_none e = rw e
 
-  module _ (z : ℕ) (e : zero ≡ Id z) where
+  module _ (z : ℕ) (e : zero ≡ Some z) where
     pub effective_unheld : (z ≡ old.effective → ⊥) → false ≡ loses_effective zero old new
     effective_unheld a = rw (e, ne_eqb z old.effective a)
 
@@ -107,7 +104,7 @@ pub kept_whole : (set : CapabilitySet) (lost : Bool) → lost ≡ false → set 
 kept_whole set lost t = rw t
 
 -- ---- the process after the change
-module _ (zero : Translated) (p : Process) (new : Ids) (all lost either : Bool) (a b : CapabilitySet) where
+module _ (zero : Option ℕ) (p : Process) (new : Ids) (all lost either : Bool) (a b : CapabilitySet) where
   pub users_made : all ≡ loses_all zero p.users new → lost ≡ loses_effective zero p.users new → either ≡ (all || lost)
       → a ≡ cond all (record { bits = empty_set }) p.permitted → b ≡ cond either (record { bits = empty_set }) p.effective
       → record { live = p.live; namespace = p.namespace; users = new; groups = p.groups; supplementary = p.supplementary; permitted = a; effective = b } ≡ with_users zero p new
@@ -123,7 +120,7 @@ unfolding with_groups
 groups_made p new = refl
 
 module _ (s : State) (kind : Kind) (p : Process) (new : Ids) (r : Process) where
-  pub ids_user : (zero : Translated) → kind ≡ User → zero ≡ to_kernel s User p.namespace 0 → r ≡ with_users zero p new → r ≡ with_ids (by_kernel_starts s) kind p new
+  pub ids_user : (zero : Option ℕ) → kind ≡ User → zero ≡ to_kernel s User p.namespace 0 → r ≡ with_users zero p new → r ≡ with_ids (by_kernel_starts s) kind p new
   unfolding by_kernel_starts
   ids_user zero k ez e = rw k (rw ez at e)
 
@@ -149,12 +146,12 @@ after_three by s kind i p old a b d =
     (refuse s 1)
     (record { reply = done; tables = put_process s i (with_ids by kind p (record { real = a; effective = b; saved = d })) })
 
-module _ (by : Translation) (l : List ℕ) (kind : Kind) (c real effective saved : ℕ) (r : Found) (named : r ≡ caller_named (tables_of l) c) where
-  pub set_ids_nobody : r ≡ Nothing → Promise (Refused ESRCH) l l (set_ids_of by (tables_of l) kind c real effective saved)
+module _ (by : Translation) (l : List ℕ) (kind : Kind) (c real effective saved : ℕ) (r : Option ℕ) (named : r ≡ caller_named (tables_of l) c) where
+  pub set_ids_nobody : r ≡ None → Promise (Refused ESRCH) l l (set_ids_of by (tables_of l) kind c real effective saved)
   unfolding set_ids_of
   set_ids_nobody e = refuses ESRCH l (set_ids_of by (tables_of l) kind c real effective saved) (rw (← named, e))
 
-  module _ (i : ℕ) (at : r ≡ At i) (p : Process) (read : p ≡ process_at (tables_of l) i) (old : Ids) (present : old ≡ ids_in kind p) where
+  module _ (i : ℕ) (at : r ≡ Some i) (p : Process) (read : p ≡ process_at (tables_of l) i) (old : Ids) (present : old ≡ ids_in kind p) where
     set_ids_found : set_ids_of by (tables_of l) kind c real effective saved ≡ then_three
         (chosen by kind p.namespace real old.real)
         (chosen by kind p.namespace effective old.effective)
@@ -163,19 +160,19 @@ module _ (by : Translation) (l : List ℕ) (kind : Kind) (c real effective saved
     unfolding set_ids_of after_three
     set_ids_found = rw (← named, at, ← read, ← present)
 
-    module _ (x : Translated) (ex : x ≡ chosen by kind p.namespace real old.real) where
-      pub set_ids_no_real : x ≡ Unmapped → Promise (Refused EINVAL) l l (set_ids_of by (tables_of l) kind c real effective saved)
+    module _ (x : Option ℕ) (ex : x ≡ chosen by kind p.namespace real old.real) where
+      pub set_ids_no_real : x ≡ None → Promise (Refused EINVAL) l l (set_ids_of by (tables_of l) kind c real effective saved)
       set_ids_no_real e = refuses EINVAL l (set_ids_of by (tables_of l) kind c real effective saved) (rw (set_ids_found, ← ex, e))
 
-      module _ (a : ℕ) (xa : x ≡ Id a) (y : Translated) (ey : y ≡ chosen by kind p.namespace effective old.effective) where
-        pub set_ids_no_effective : y ≡ Unmapped → Promise (Refused EINVAL) l l (set_ids_of by (tables_of l) kind c real effective saved)
+      module _ (a : ℕ) (xa : x ≡ Some a) (y : Option ℕ) (ey : y ≡ chosen by kind p.namespace effective old.effective) where
+        pub set_ids_no_effective : y ≡ None → Promise (Refused EINVAL) l l (set_ids_of by (tables_of l) kind c real effective saved)
         set_ids_no_effective e = refuses EINVAL l (set_ids_of by (tables_of l) kind c real effective saved) (rw (set_ids_found, ← ex, xa, ← ey, e))
 
-        module _ (b : ℕ) (yb : y ≡ Id b) (z : Translated) (ez : z ≡ chosen by kind p.namespace saved old.saved) where
-          pub set_ids_no_saved : z ≡ Unmapped → Promise (Refused EINVAL) l l (set_ids_of by (tables_of l) kind c real effective saved)
+        module _ (b : ℕ) (yb : y ≡ Some b) (z : Option ℕ) (ez : z ≡ chosen by kind p.namespace saved old.saved) where
+          pub set_ids_no_saved : z ≡ None → Promise (Refused EINVAL) l l (set_ids_of by (tables_of l) kind c real effective saved)
           set_ids_no_saved e = refuses EINVAL l (set_ids_of by (tables_of l) kind c real effective saved) (rw (set_ids_found, ← ex, xa, ← ey, yb, ← ez, e))
 
-          module _ (d : ℕ) (zd : z ≡ Id d) (t : Bool) (may : t ≡ may_take (tables_of l) kind p (record { real = a; effective = b; saved = d }) old) where
+          module _ (d : ℕ) (zd : z ≡ Some d) (t : Bool) (may : t ≡ may_take (tables_of l) kind p (record { real = a; effective = b; saved = d }) old) where
             set_ids_three : set_ids_of by (tables_of l) kind c real effective saved ≡ after_three by (tables_of l) kind i p old a b d
             set_ids_three = rw (set_ids_found, ← ex, xa, ← ey, yb, ← ez, zd)
 

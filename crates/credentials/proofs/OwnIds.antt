@@ -1,4 +1,5 @@
 -- A process's own IDs, in the words of the code: each law's premises are what a place knows. Assumes nothing.
+use Rattle.std.specs.Prelude.{Option, Some, None}
 use Prim.Native.Nat.{ℕ, ◌+◌, ◌≤◌, ◌<◌, min}
 use mathlib.Core.Path.{◌≡◌, refl, sym}
 use mathlib.Core.List.{List, [], ◌∷◌, map, map-append}
@@ -6,7 +7,6 @@ use native.Mathlib.Omega.{arith}
 use lib.ListN.{length, take, get_or, set, replicate}
 use borrow.Author.Rules.{rules}
 use Rattle.prelude.proofs.Lists.{take_min}
-use Rattle.idmap.specs.declared.Translated.{Translated}
 use Rattle.idmap.specs.Lookup.{id_or, overflow_id}
 use Rattle.records.specs.declared.Kind.{Kind}
 use Rattle.records.specs.declared.Kind.TheVariants.{User, Group}
@@ -16,8 +16,6 @@ use Rattle.records.specs.declared.Process.{Process}
 use Rattle.records.specs.Records.{max_groups}
 use Rattle.tables.specs.Tables.{State, process_at}
 use Rattle.tables.specs.Find.{caller_named}
-use Rattle.tables.specs.declared.find.Found.{Found}
-use Rattle.tables.specs.declared.find.Found.TheVariants.{At, Nothing}
 use Rattle.tables.specs.declared.answer.Errno.TheVariants.{ESRCH}
 use Rattle.hierarchy.specs.Walks.{Translation}
 use Rattle.hierarchy.specs.KernelStarts.{from_kernel, by_kernel_starts}
@@ -27,7 +25,7 @@ use Rattle.credentials.specs.Calls.{seen, seen_ids, group_list, seen_groups, no_
 use Rattle.credentials.proofs.Filled.{take_more, filled_more}
 
 -- ---- one ID, and three
-pub seen_one : (s : State) (kind : Kind) (n x v : ℕ) (r : Translated) → r ≡ from_kernel s kind n x → v ≡ id_or overflow_id r → v ≡ seen (by_kernel_starts s) kind n x
+pub seen_one : (s : State) (kind : Kind) (n x v : ℕ) (r : Option ℕ) → r ≡ from_kernel s kind n x → v ≡ id_or overflow_id r → v ≡ seen (by_kernel_starts s) kind n x
 unfolding by_kernel_starts
 seen_one s kind n x v r found shown = rw (shown, found)
 
@@ -61,12 +59,12 @@ module _ (by : Translation) (n : ℕ) where
         rw (take_min g.count g.ids, all, e) (sym inv)
 
 -- ---- the call
-module _ (by : Translation) (s : State) (c : ℕ) (r : Found) (named : r ≡ caller_named s c) where
-  pub own_nobody : r ≡ Nothing → ◌≡◌ {A = OwnResult} (record { answer = NotTold ESRCH; ids = no_own_ids }) (own_ids_of by s c)
+module _ (by : Translation) (s : State) (c : ℕ) (r : Option ℕ) (named : r ≡ caller_named s c) where
+  pub own_nobody : r ≡ None → ◌≡◌ {A = OwnResult} (record { answer = NotTold ESRCH; ids = no_own_ids }) (own_ids_of by s c)
   unfolding own_ids_of
   own_nobody e = rw (← named, e)
 
-  pub own_found : (i : ℕ) (p : Process) (a b : Ids) (g : GroupList) → r ≡ At i → p ≡ process_at s i → a ≡ seen_ids by User p.namespace p.users
+  pub own_found : (i : ℕ) (p : Process) (a b : Ids) (g : GroupList) → r ≡ Some i → p ≡ process_at s i → a ≡ seen_ids by User p.namespace p.users
       → b ≡ seen_ids by Group p.namespace p.groups → g ≡ seen_groups by p.namespace p.supplementary
       → ◌≡◌ {A = OwnResult} (record { answer = Told; ids = record { users = a; groups = b; supplementary = g } }) (own_ids_of by s c)
   unfolding own_ids_of

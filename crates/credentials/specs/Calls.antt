@@ -1,11 +1,8 @@
 -- ID changes, setgroups, own IDs, the capability question, drop and translate: document 01, 'The calls, and the order
 -- in which each refuses'. Assumes nothing.
-use Rattle.std.specs.Prelude.{ℕ, ◌-◌, Bool, true, false, cond, not, ◌&&◌, ◌||◌, List, [], ◌++◌, map, eqb, ltb, length, take, replicate}
-use Rattle.std.proofs.Math.Option.{Option, none, some}
+use Rattle.std.specs.Prelude.{ℕ, ◌-◌, Bool, true, false, cond, not, ◌&&◌, ◌||◌, List, [], ◌++◌, map, eqb, ltb, length, take, replicate, Option, Some, None}
 use Rattle.prelude.specs.Lists.{all_of}
 use Rattle.capability.specs.Sets.{cap_setgid, cap_last_cap, empty_set, is_within}
-use Rattle.idmap.specs.declared.Translated.{Translated}
-use Rattle.idmap.specs.declared.Translated.TheVariants.{Id, Unmapped}
 use Rattle.idmap.specs.Good.{no_id}
 use Rattle.idmap.specs.Lookup.{id_or, overflow_id}
 use Rattle.records.specs.declared.Kind.{Kind}
@@ -28,15 +25,15 @@ use Rattle.credentials.specs.declared.translate.Way.TheVariants.{Out, Back}
 
 -- ---- set real, effective, saved IDs of a kind
 -- what is given for one of the three: 4,294,967,295 leaves it as it is, another ID is translated out
-abbrev pub chosen : Translation → Kind → ℕ → ℕ → ℕ → Translated
-chosen by kind n x old = cond (eqb x no_id) (Id old) (by.out kind n x)
+abbrev pub chosen : Translation → Kind → ℕ → ℕ → ℕ → Option ℕ
+chosen by kind n x old = cond (eqb x no_id) (Some old) (by.out kind n x)
 
 -- what follows three kernel IDs, or other where one is not to be had
-abbrev pub then_three : {A : Type 0} → Translated → Translated → Translated → A → (ℕ → ℕ → ℕ → A) → A
-then_three (Id a) (Id b) (Id c) other next = next a b c
-then_three (Id a) (Id b) Unmapped other next = other
-then_three (Id a) Unmapped c other next = other
-then_three Unmapped b c other next = other
+abbrev pub then_three : {A : Type 0} → Option ℕ → Option ℕ → Option ℕ → A → (ℕ → ℕ → ℕ → A) → A
+then_three (Some a) (Some b) (Some c) other next = next a b c
+then_three (Some a) (Some b) None other next = other
+then_three (Some a) None c other next = other
+then_three None b c other next = other
 
 -- an ID is one of three
 abbrev pub is_one_of : ℕ → Ids → Bool
@@ -47,16 +44,16 @@ all_one_of new old = is_one_of new.real old && (is_one_of new.effective old && i
 
 -- the sets after a change of user IDs, where zero is the namespace's ID 0: if one of the three was it and none is now,
 -- both sets are emptied; if the effective ID was it and is not now, the effective set is emptied
-abbrev pub loses_all : Translated → Ids → Ids → Bool
-loses_all Unmapped old new = false
-loses_all (Id z) old new = is_one_of z old && not (is_one_of z new)
+abbrev pub loses_all : Option ℕ → Ids → Ids → Bool
+loses_all None old new = false
+loses_all (Some z) old new = is_one_of z old && not (is_one_of z new)
 
-abbrev pub loses_effective : Translated → Ids → Ids → Bool
-loses_effective Unmapped old new = false
-loses_effective (Id z) old new = eqb z old.effective && not (eqb z new.effective)
+abbrev pub loses_effective : Option ℕ → Ids → Ids → Bool
+loses_effective None old new = false
+loses_effective (Some z) old new = eqb z old.effective && not (eqb z new.effective)
 
 -- process p with new user IDs and the sets that this leaves it
-unfoldable pub with_users : Translated → Process → Ids → Process
+unfoldable pub with_users : Option ℕ → Process → Ids → Process
 with_users zero p new = record {
   live = p.live;
   namespace = p.namespace;
@@ -99,9 +96,9 @@ set_ids_of by s kind c real effective saved =
     (record { reply = done; tables = put_process s i (with_ids by kind (process_at s i) (record { real = a; effective = b; saved = d })) })))
 
 -- ---- setgroups
-abbrev pub to_option : Translated → Option ℕ
-to_option (Id x) = some x
-to_option Unmapped = none
+abbrev pub to_option : Option ℕ → Option ℕ
+to_option (Some x) = Some x
+to_option None = None
 
 -- groups in a list that has places for them
 unfoldable pub group_list : List ℕ → GroupList
@@ -119,16 +116,16 @@ with_list p new = record {
 }
 
 abbrev pub then_list : {A : Type 0} → Option (List ℕ) → A → (List ℕ → A) → A
-then_list none other next = other
-then_list (some ids) other next = next ids
+then_list None other next = other
+then_list (Some ids) other next = next ids
 
 -- the kernel IDs of groups given in a namespace, or none where one is not mapped
 unfoldable pub kernel_groups : Translation → ℕ → List ℕ → Option (List ℕ)
 kernel_groups by n list = all_of (λ (x : ℕ). to_option (by.out Group n x)) list
 
 abbrev pub listed_of : Option (List ℕ) → Listed
-listed_of none = record { mapped = false; groups = group_list [] }
-listed_of (some ids) = record { mapped = true; groups = group_list ids }
+listed_of None = record { mapped = false; groups = group_list [] }
+listed_of (Some ids) = record { mapped = true; groups = group_list ids }
 
 -- the new list replaces the old, in the order given, repeats kept
 unfoldable pub set_groups_of : Translation → State → ℕ → List ℕ → Outcome
@@ -168,7 +165,7 @@ drop_of s c permitted effective =
     (record { reply = done; tables = put_process s i (with_sets (process_at s i) permitted effective) })))
 
 -- ---- own IDs, as seen in the process's namespace; an untranslatable one shows as the overflow ID
-abbrev pub shown_as : Translated → ℕ
+abbrev pub shown_as : Option ℕ → ℕ
 shown_as r = id_or overflow_id r
 
 abbrev pub seen : Translation → Kind → ℕ → ℕ → ℕ
@@ -198,14 +195,14 @@ own_ids_of by s c =
 
 -- ---- translate, naming a namespace
 -- out: the kernel ID that an ID of namespace n stands for; back: the ID of namespace n that stands for a kernel ID
-abbrev pub turned : Translation → Kind → Way → ℕ → ℕ → Translated
+abbrev pub turned : Translation → Kind → Way → ℕ → ℕ → Option ℕ
 turned by kind Out n x = by.out kind n x
 turned by kind Back n x = by.back kind n x
 
 -- an ID, or "unmapped", which is an answer
-abbrev pub translated : Translated → Reply
-translated (Id y) = id y
-translated Unmapped = unmapped
+abbrev pub translated : Option ℕ → Reply
+translated (Some y) = id y
+translated None = unmapped
 
 unfoldable pub translate_reply : Translation → State → Kind → Way → ℕ → ℕ → ℕ → Reply
 translate_reply by s kind way c name x =

@@ -1,11 +1,10 @@
 -- Translation in the words of the code: each law's premises are what a place knows. Assumes nothing.
+use Rattle.std.specs.Prelude.{Option, Some, None}
 use Prim.Native.Nat.{ℕ}
 use mathlib.Core.Path.{◌≡◌, refl, ◌∙◌}
 use mathlib.Core.List.{List}
 use borrow.Author.Rules.{rules}
 use borrow.Author.Tests.{eq-eqb, ne_eqb}
-use Rattle.idmap.specs.declared.Translated.{Translated}
-use Rattle.idmap.specs.declared.Translated.TheVariants.{Id, Unmapped}
 use Rattle.idmap.specs.Good.{no_id}
 use Rattle.idmap.specs.Line.{kernel_lines_in}
 use Rattle.idmap.specs.Lookup.{out, back}
@@ -16,13 +15,13 @@ use Rattle.hierarchy.specs.Walks.{itself}
 use Rattle.hierarchy.specs.KernelStarts.{to_kernel, from_kernel}
 
 -- ---- the initial namespace
-pub itself_none : (x : ℕ) → x ≡ no_id → Unmapped ≡ itself x
+pub itself_none : (x : ℕ) → x ≡ no_id → None ≡ itself x
 itself_none x e = rw (eq-eqb x no_id e)
 
-pub itself_same : (x : ℕ) → (x ≡ no_id → ⊥) → Id x ≡ itself x
+pub itself_same : (x : ℕ) → (x ≡ no_id → ⊥) → Some x ≡ itself x
 itself_same x e = rw (ne_eqb x no_id e)
 
-module _ (s : State) (kind : Kind) (n x : ℕ) (r : Translated) where
+module _ (s : State) (kind : Kind) (n x : ℕ) (r : Option ℕ) where
   pub to_root : n ≡ 0 → r ≡ itself x → r ≡ to_kernel s kind n x
   unfolding to_kernel
   to_root z e = e ∙ rw (eq-eqb n 0 z)

@@ -1,9 +1,8 @@
 -- Translation by the kernel starts that the lines of the tables have, and ranges by a lookup's count: what the code does.
 -- NOT to be believed: that on tables which calls leave it is `by_levels`, the papers', for every kind, namespace and
 -- number, is proved (`AsDocument` of claims). Assumes nothing.
-use Rattle.std.specs.Prelude.{ℕ, ◌-◌, Bool, cond, List, ◌++◌, map, eqb, length, replicate}
+use Rattle.std.specs.Prelude.{ℕ, ◌-◌, Bool, cond, List, ◌++◌, map, eqb, length, replicate, Option}
 use Rattle.idmap.specs.declared.Line.{Line}
-use Rattle.idmap.specs.declared.Translated.{Translated}
 use Rattle.idmap.specs.Good.{max_lines}
 use Rattle.idmap.specs.Lookup.{out, or_no_id, back}
 use Rattle.idmap.specs.Ranges.{whole_by_reach}
@@ -18,10 +17,10 @@ kernel_lines_at s kind n = on_kernels (lines_of (map_in kind (namespace_at s n))
 
 -- the kernel ID that an ID of namespace n stands for, and the ID of namespace n that stands for a kernel ID: one lookup
 -- each, at any level
-unfoldable pub to_kernel : State → Kind → ℕ → ℕ → Translated
+unfoldable pub to_kernel : State → Kind → ℕ → ℕ → Option ℕ
 to_kernel s kind n x = cond (eqb n 0) (itself x) (out (kernel_lines_at s kind n) x)
 
-unfoldable pub from_kernel : State → Kind → ℕ → ℕ → Translated
+unfoldable pub from_kernel : State → Kind → ℕ → ℕ → Option ℕ
 from_kernel s kind n y = cond (eqb n 0) (itself y) (back (kernel_lines_at s kind n) y)
 
 -- whether a range of IDs lies whole in one line of the map of namespace n, by one lookup
@@ -37,5 +36,5 @@ quick f s = f (by_kernel_starts s) s
 
 -- what the code keeps beside lines that are written as a map: the kernel ID that each line's parent start stands for, by
 -- what the parent namespace's IDs do, and 0 in the places past the lines
-unfoldable pub kernel_starts : (ℕ → Translated) → List Line → List ℕ
+unfoldable pub kernel_starts : (ℕ → Option ℕ) → List Line → List ℕ
 kernel_starts out ls = map (λ (l : Line). or_no_id (out l.parent)) ls ++ replicate (max_lines - length ls) 0

@@ -1,8 +1,6 @@
 -- Walks along the hierarchy of namespaces: document 01, 'Translation' and 'Who holds a capability'. Assumes nothing.
-use Rattle.std.specs.Prelude.{ℕ, zero, suc, min, Bool, true, false, cond, ◌&&◌, eqb}
+use Rattle.std.specs.Prelude.{ℕ, zero, suc, min, Bool, true, false, cond, ◌&&◌, eqb, Option, Some, None}
 use Rattle.capability.specs.Sets.{holds}
-use Rattle.idmap.specs.declared.Translated.{Translated}
-use Rattle.idmap.specs.declared.Translated.TheVariants.{Id, Unmapped}
 use Rattle.idmap.specs.Good.{no_id}
 use Rattle.records.specs.declared.Kind.{Kind}
 use Rattle.records.specs.declared.Process.{Process}
@@ -19,13 +17,13 @@ height_of s n = min (namespace_at s n).level max_level
 -- whole in one line of the namespace's map. The definitions of the calls take one. The papers' is `by_levels` of
 -- claims/specs/Translation.antt
 pub record Translation : Type 0 where
-  pub out : Kind → ℕ → ℕ → Translated
-  pub back : Kind → ℕ → ℕ → Translated
+  pub out : Kind → ℕ → ℕ → Option ℕ
+  pub back : Kind → ℕ → ℕ → Option ℕ
   pub whole : Kind → ℕ → ℕ → ℕ → Bool
 
 -- in the initial namespace each ID but 'no ID' stands for itself
-abbrev pub itself : ℕ → Translated
-itself x = cond (eqb x no_id) Unmapped (Id x)
+abbrev pub itself : ℕ → Option ℕ
+itself x = cond (eqb x no_id) None (Some x)
 
 -- ---- who holds a capability
 -- the second rule: the namespace's parent is the process's own, and its owner is the process's effective user

@@ -1,9 +1,7 @@
 -- Examples of the papers, computed from the definitions. Assumes nothing.
-use Rattle.std.proofs.Common.{◌≡◌, ℕ, true, false, List, [], ◌∷◌, map, refl}
-use mathlib.Core.Option.{none, some}
+use Rattle.std.proofs.Common.{◌≡◌, ℕ, true, false, List, [], ◌∷◌, map, refl, Some, None}
 use Rattle.prelude.specs.Lists.{cons_of, all_of}
 use Rattle.idmap.specs.declared.Line.{Line}
-use Rattle.idmap.specs.declared.Translated.TheVariants.{Id, Unmapped}
 use Rattle.idmap.specs.Lookup.{lookup_of, out, flip, back}
 use Rattle.idmap.specs.Good.{fits_of, bounded_of, apart_side, apart_of, all_apart, good_of}
 use Rattle.idmap.specs.Ranges.{one_has, lies_whole}
@@ -13,15 +11,15 @@ abbrev line : ℕ → ℕ → ℕ → Line
 line a b c = record { inside = a; parent = b; count = c }
 
 -- `0 100000 65536`: 65535 is 165535; 65536 is unmapped
-last_mapped : out (line 0 100000 65536 ∷ []) 65535 ≡ Id 165535
+last_mapped : out (line 0 100000 65536 ∷ []) 65535 ≡ Some 165535
 unfolding out
 last_mapped = refl
 
-first_unmapped : out (line 0 100000 65536 ∷ []) 65536 ≡ Unmapped
+first_unmapped : out (line 0 100000 65536 ∷ []) 65536 ≡ None
 unfolding out
 first_unmapped = refl
 
-comes_back : back (line 0 100000 65536 ∷ []) 165535 ≡ Id 65535
+comes_back : back (line 0 100000 65536 ∷ []) 165535 ≡ Some 65535
 unfolding out
 comes_back = refl
 
@@ -30,19 +28,19 @@ comes_back = refl
 abbrev adjoining : List Line
 adjoining = line 0 100000 10 ∷ line 10 100010 5 ∷ []
 
-ends_with_its_line : lookup_of adjoining 8 ≡ record { translated = Id 100008; reach = 2 }
+ends_with_its_line : lookup_of adjoining 8 ≡ record { translated = Some 100008; reach = 2 }
 unfolding lookup_of
 ends_with_its_line = refl
 
-starts_with_the_next : lookup_of adjoining 10 ≡ record { translated = Id 100010; reach = 5 }
+starts_with_the_next : lookup_of adjoining 10 ≡ record { translated = Some 100010; reach = 5 }
 unfolding lookup_of
 starts_with_the_next = refl
 
-none_past_the_lines : lookup_of adjoining 15 ≡ record { translated = Unmapped; reach = 0 }
+none_past_the_lines : lookup_of adjoining 15 ≡ record { translated = None; reach = 0 }
 unfolding lookup_of
 none_past_the_lines = refl
 
-counts_back : lookup_of (map flip adjoining) 100012 ≡ record { translated = Id 12; reach = 3 }
+counts_back : lookup_of (map flip adjoining) 100012 ≡ record { translated = Some 12; reach = 3 }
 unfolding lookup_of
 counts_back = refl
 
@@ -61,11 +59,11 @@ unfolding one_has lies_whole
 across_two = refl
 
 -- "0 100000 10\n10 100010 5"
-two_lines : map_lines (48 ∷ 32 ∷ 49 ∷ 48 ∷ 48 ∷ 48 ∷ 48 ∷ 48 ∷ 32 ∷ 49 ∷ 48 ∷ 10 ∷ 49 ∷ 48 ∷ 32 ∷ 49 ∷ 48 ∷ 48 ∷ 48 ∷ 49 ∷ 48 ∷ 32 ∷ 53 ∷ []) ≡ some (line 0 100000 10 ∷ line 10 100010 5 ∷ [])
+two_lines : map_lines (48 ∷ 32 ∷ 49 ∷ 48 ∷ 48 ∷ 48 ∷ 48 ∷ 48 ∷ 32 ∷ 49 ∷ 48 ∷ 10 ∷ 49 ∷ 48 ∷ 32 ∷ 49 ∷ 48 ∷ 48 ∷ 48 ∷ 49 ∷ 48 ∷ 32 ∷ 53 ∷ []) ≡ Some (line 0 100000 10 ∷ line 10 100010 5 ∷ [])
 unfolding pieces filled cons_of all_of all_digits decimal decimal_of numbers_of three_of line_of text_lines checked map_lines fits_of bounded_of apart_side apart_of all_apart good_of
 two_lines = refl
 
 -- "0 100000 10\n20 100009 5": the lines overlap on the parent side
-parents_meet : map_lines (48 ∷ 32 ∷ 49 ∷ 48 ∷ 48 ∷ 48 ∷ 48 ∷ 48 ∷ 32 ∷ 49 ∷ 48 ∷ 10 ∷ 50 ∷ 48 ∷ 32 ∷ 49 ∷ 48 ∷ 48 ∷ 48 ∷ 48 ∷ 57 ∷ 32 ∷ 53 ∷ []) ≡ none
+parents_meet : map_lines (48 ∷ 32 ∷ 49 ∷ 48 ∷ 48 ∷ 48 ∷ 48 ∷ 48 ∷ 32 ∷ 49 ∷ 48 ∷ 10 ∷ 50 ∷ 48 ∷ 32 ∷ 49 ∷ 48 ∷ 48 ∷ 48 ∷ 48 ∷ 57 ∷ 32 ∷ 53 ∷ []) ≡ None
 unfolding pieces filled cons_of all_of all_digits decimal decimal_of numbers_of three_of line_of text_lines checked map_lines fits_of bounded_of apart_side apart_of all_apart good_of
 parents_meet = refl

@@ -1,8 +1,7 @@
 -- The numbers of a line, taken from its front: blanks at the front do not count, and the digits at the front are the
 -- first number. Assumes nothing.
-use Rattle.std.proofs.Common.{◌≡◌, ℕ, ◌+◌, ◌-◌, ◌*◌, ◌<◌, true, false, cond, leb, List, [], ◌∷◌, ◌++◌, take, drop, sym, refl, ap, ◌∙◌, append-nil, arith, take-append-drop, ne_eqb, leb-true}
+use Rattle.std.proofs.Common.{◌≡◌, ℕ, ◌+◌, ◌-◌, ◌*◌, ◌<◌, true, false, cond, leb, List, [], ◌∷◌, ◌++◌, take, drop, sym, refl, ap, ◌∙◌, append-nil, arith, take-append-drop, ne_eqb, leb-true, Option, Some, None}
 use mathlib.Core.Bool.{and-false}
-use mathlib.Core.Option.{Option, none, some}
 use Rattle.idmap.specs.Good.{no_id}
 use Rattle.idmap.specs.Text.{is_blank, is_digit, longer, pieces, filled, all_digits, decimal, decimal_of, numbers_of}
 use Rattle.idmap.specs.Scan.{span, value}
@@ -57,7 +56,7 @@ decimal_front v [] = refl
 decimal_front v (c ∷ s) = by_test (is_digit c) (λ t. rw t (decimal_front (v * 10 + (c - 48)) s)) (λ t. rw t)
 
 -- the number that they are
-pub number_front : (s : List ℕ) → decimal_of (take (span is_digit s) s) ≡ cond (leb (value 0 s) no_id) (some (value 0 s)) none
+pub number_front : (s : List ℕ) → decimal_of (take (span is_digit s) s) ≡ cond (leb (value 0 s) no_id) (Some (value 0 s)) None
 unfolding decimal_of
 number_front s = rw (digits_front s, decimal_front 0 s)
 
@@ -93,7 +92,7 @@ unfolding span
 numbers_skip [] = refl
 numbers_skip (c ∷ s) = by_test (is_blank c) (λ t. rw t (numbers_blank c s t ∙ numbers_skip s)) (λ t. rw t)
 
-pub numbers_none : numbers_of [] ≡ some []
+pub numbers_none : numbers_of [] ≡ Some []
 unfolding numbers_of pieces filled all_of
 numbers_none = refl
 
@@ -103,7 +102,7 @@ unfolding all_digits
 not_digits [] c s d = rw d
 not_digits (a ∷ w) c s d = rw (not_digits w c s d) (and-false (is_digit a))
 
-not_number : (w : List ℕ) (c : ℕ) (s : List ℕ) → is_digit c ≡ false → decimal_of (w ++ (c ∷ s)) ≡ none
+not_number : (w : List ℕ) (c : ℕ) (s : List ℕ) → is_digit c ≡ false → decimal_of (w ++ (c ∷ s)) ≡ None
 unfolding decimal_of
 not_number w c s d = rw (not_digits w c s d)
 
@@ -112,7 +111,7 @@ numbers_solid : (c : ℕ) (s : List ℕ) → is_blank c ≡ false → numbers_of
 unfolding numbers_of pieces all_of
 numbers_solid c s b = rw (b, filled_longer c (pieces is_blank s))
 
-pub numbers_other : (c : ℕ) (s : List ℕ) → is_blank c ≡ false → is_digit c ≡ false → numbers_of (c ∷ s) ≡ none
+pub numbers_other : (c : ℕ) (s : List ℕ) → is_blank c ≡ false → is_digit c ≡ false → numbers_of (c ∷ s) ≡ None
 unfolding cons_of
 numbers_other c s b d = numbers_solid c s b ∙ rw (not_number [] c (first_of (pieces is_blank s)) d)
 
@@ -136,7 +135,7 @@ module _ (c : ℕ) (w : List ℕ) (d : all_digits (c ∷ w) ≡ true) where
   unfolding numbers_of all_of
   numbers_after v = ap (all_of decimal_of) (fields_after v c w d)
 
-  numbers_spoilt : (b : ℕ) (v : List ℕ) → is_blank b ≡ false → is_digit b ≡ false → numbers_of (c ∷ (w ++ (b ∷ v))) ≡ none
+  numbers_spoilt : (b : ℕ) (v : List ℕ) → is_blank b ≡ false → is_digit b ≡ false → numbers_of (c ∷ (w ++ (b ∷ v))) ≡ None
   unfolding cons_of
   numbers_spoilt b v y t =
       numbers_after (b ∷ v)

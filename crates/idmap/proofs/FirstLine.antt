@@ -1,7 +1,6 @@
 -- The reader's scan of the line at the front of a text gives what the text's definition says of its first piece.
 -- Assumes nothing.
-use Rattle.std.proofs.Common.{◌≡◌, ℕ, zero, suc, ◌+◌, ◌-◌, ◌*◌, ◌<◌, ◌≤◌, Bool, true, false, cond, eqb, ltb, leb, ◌⊎◌, List, [], ◌∷◌, ◌++◌, length, get_or, drop, refl, ap, ◌∙◌, inl, inr, ⊎_elim, arith, length-append, length-drop, drop_of_length-le, drop-cons, drop-drop, ltb-false, ltb-true, le-ltb, lt-ltb, eq-eqb, ne_eqb, eqb-true}
-use mathlib.Core.Option.{Option, none, some}
+use Rattle.std.proofs.Common.{◌≡◌, ℕ, zero, suc, ◌+◌, ◌-◌, ◌*◌, ◌<◌, ◌≤◌, Bool, true, false, cond, eqb, ltb, leb, ◌⊎◌, List, [], ◌∷◌, ◌++◌, length, get_or, drop, refl, ap, ◌∙◌, inl, inr, ⊎_elim, arith, length-append, length-drop, drop_of_length-le, drop-cons, drop-drop, ltb-false, ltb-true, le-ltb, lt-ltb, eq-eqb, ne_eqb, eqb-true, Option, Some, None}
 use lib.ListN.{get_or-append}
 use lib.Seq.{drop-append-le, drop-append-add, drop-length, get_or-append_seam}
 use borrow.Author.Tests.{eqb-false}
@@ -87,14 +86,14 @@ span_halts p (c ∷ s) = by_test (p c) (λ t. rw t (span_halts p s)) (λ t. rw t
 
 -- ---- the numbers that a line has from a place on, and the number that the scan finds there
 abbrev Few : Option (List ℕ) → Type 0
-Few x = (x ≡ none) ⊎ (x ≡ some [])
+Few x = (x ≡ None) ⊎ (x ≡ Some [])
 
 -- what a line has from place e on, and that a number found there is the first of what it had
 abbrev from : List ℕ → ℕ → Option (List ℕ)
 from l e = numbers_of (drop e l)
 
 abbrev Field : List ℕ → Option (List ℕ) → NumberRead → Type 0
-Field l x (Value v e) = (e ≤ length l) × (x ≡ cons_of (some v) (from l e))
+Field l x (Value v e) = (e ≤ length l) × (x ≡ cons_of (Some v) (from l e))
 Field l x NoNumber = Few x
 
 -- nothing that is a digit stands at the front, and no blank: there are no numbers
@@ -119,7 +118,7 @@ unfolding ended
 ended_over p e v t = rw t
 
 -- the number that stands in the line from place p on
-digits_number : (y : List ℕ) → 0 < span is_digit y → numbers_of y ≡ cons_of (cond (leb (value 0 y) no_id) (some (value 0 y)) none) (numbers_of (drop (span is_digit y) y))
+digits_number : (y : List ℕ) → 0 < span is_digit y → numbers_of y ≡ cons_of (cond (leb (value 0 y) no_id) (Some (value 0 y)) None) (numbers_of (drop (span is_digit y) y))
 digits_number y k = numbers_front y k ∙ ap (λ (o : Option ℕ). cons_of o (numbers_of (drop (span is_digit y) y))) (number_front y)
 
 number_case : (l : List ℕ) (p : ℕ) → p ≤ length l → Halts is_blank (drop p l) → Field l (from l p) (ended p (p + span is_digit (drop p l)) (value 0 (drop p l)))
@@ -130,7 +129,7 @@ number_case l p h b =
     rw (ended_none p (p + span is_digit (drop p l)) (value 0 (drop p l)) e) (few (drop p l) b (omega arith)))
     (λ t. let n = eqb-false (p + span is_digit (drop p l)) p t in found t (digits_number (drop p l) (omega arith)))
   where
-    found : eqb (p + span is_digit (drop p l)) p ≡ false → from l p ≡ cons_of (cond (leb (value 0 (drop p l)) no_id) (some (value 0 (drop p l))) none) (numbers_of (drop (span is_digit (drop p l)) (drop p l))) → Field l (from l p) (ended p (p + span is_digit (drop p l)) (value 0 (drop p l)))
+    found : eqb (p + span is_digit (drop p l)) p ≡ false → from l p ≡ cons_of (cond (leb (value 0 (drop p l)) no_id) (Some (value 0 (drop p l))) None) (numbers_of (drop (span is_digit (drop p l)) (drop p l))) → Field l (from l p) (ended p (p + span is_digit (drop p l)) (value 0 (drop p l)))
     found t e =
         let k = span_le is_digit (drop p l) in
         let m = length-drop p l in
@@ -166,36 +165,36 @@ module _ (l z : List ℕ) (ends : Ends z) where
         (number_case l (at + span is_blank (drop at l)) past_blanks past_halts)
 
 -- ---- the line: three numbers and nothing more
-few_three : (x : Option (List ℕ)) → Few x → three_of x ≡ none
+few_three : (x : Option (List ℕ)) → Few x → three_of x ≡ None
 unfolding three_of
 few_three x f = ⊎_elim (λ e. rw e) (λ e. rw e) f
 
-few_two : (a : ℕ) (x : Option (List ℕ)) → Few x → three_of (cons_of (some a) x) ≡ none
+few_two : (a : ℕ) (x : Option (List ℕ)) → Few x → three_of (cons_of (Some a) x) ≡ None
 unfolding three_of cons_of
 few_two a x f = ⊎_elim (λ e. rw e) (λ e. rw e) f
 
-few_one : (a b : ℕ) (x : Option (List ℕ)) → Few x → three_of (cons_of (some a) (cons_of (some b) x)) ≡ none
+few_one : (a b : ℕ) (x : Option (List ℕ)) → Few x → three_of (cons_of (Some a) (cons_of (Some b) x)) ≡ None
 unfolding three_of cons_of
 few_one a b x f = ⊎_elim (λ e. rw e) (λ e. rw e) f
 
-fourth : (a b c : ℕ) (o : Option ℕ) (os : Option (List ℕ)) → three_of (cons_of (some a) (cons_of (some b) (cons_of (some c) (cons_of o os)))) ≡ none
+fourth : (a b c : ℕ) (o : Option ℕ) (os : Option (List ℕ)) → three_of (cons_of (Some a) (cons_of (Some b) (cons_of (Some c) (cons_of o os)))) ≡ None
 unfolding three_of cons_of
-fourth a b c none os = refl
-fourth a b c (some d) none = refl
-fourth a b c (some d) (some ds) = refl
+fourth a b c None os = refl
+fourth a b c (Some d) None = refl
+fourth a b c (Some d) (Some ds) = refl
 
 -- what was scanned is what the line says, and leaves what follows the line
 abbrev Scanned : List ℕ → List ℕ → Option Line → LineRead → Type 0
-Scanned l z o (Read m u) = (o ≡ some m) × (drop u (l ++ z) ≡ drop 1 z) × (u ≤ length (l ++ z))
-Scanned l z o NoLine = o ≡ none
+Scanned l z o (Read m u) = (o ≡ Some m) × (drop u (l ++ z) ≡ drop 1 z) × (u ≤ length (l ++ z))
+Scanned l z o NoLine = o ≡ None
 
 then_number_lem : (l z : List ℕ) (o : Option Line) (x : Option (List ℕ)) (r : NumberRead) (next : ℕ → ℕ → LineRead) → Field l x r
-    → ((v e : ℕ) → e ≤ length l → x ≡ cons_of (some v) (from l e) → Scanned l z o (next v e)) → (Few x → o ≡ none) → Scanned l z o (then_number r next)
+    → ((v e : ℕ) → e ≤ length l → x ≡ cons_of (Some v) (from l e) → Scanned l z o (next v e)) → (Few x → o ≡ None) → Scanned l z o (then_number r next)
 then_number_lem l z o x (Value v e) next f found short = found v e f.0 f.1
 then_number_lem l z o x NoNumber next f found short = short f
 
 -- the line's end: nothing but blanks is left of the line
-end_here : (l z : List ℕ) → Ends z → (m : Line) → Scanned l z (some m) (line_end (l ++ z) (length l) m)
+end_here : (l z : List ℕ) → Ends z → (m : Line) → Scanned l z (Some m) (line_end (l ++ z) (length l) m)
 unfolding line_end
 end_here l z at_end m =
     let k = length-append l [] in
@@ -219,7 +218,7 @@ more_left l p h b =
 
 module _ (l z : List ℕ) (solid : Solid l) (ends : Ends z) where
   -- after three numbers
-  end_case : (a b c e : ℕ) → e ≤ length l → numbers_of l ≡ cons_of (some a) (cons_of (some b) (cons_of (some c) (from l e))) → Scanned l z (three_of (numbers_of l)) (line_end (l ++ z) (skipped (l ++ z) e) (record { inside = a; parent = b; count = c }))
+  end_case : (a b c e : ℕ) → e ≤ length l → numbers_of l ≡ cons_of (Some a) (cons_of (Some b) (cons_of (Some c) (from l e))) → Scanned l z (three_of (numbers_of l)) (line_end (l ++ z) (skipped (l ++ z) e) (record { inside = a; parent = b; count = c }))
   unfolding three_of cons_of
   end_case a b c e h n =
       let p = e + span is_blank (drop e l) in
@@ -232,7 +231,7 @@ module _ (l z : List ℕ) (solid : Solid l) (ends : Ends z) where
       (λ t.
       let k = ltb-false p (length l) t in
       let q : p ≡ length l = omega arith in
-      let none_left : from l p ≡ some [] = rw (q, drop-length l) numbers_none in
+      let none_left : from l p ≡ Some [] = rw (q, drop-length l) numbers_none in
       rw (skip_in l z ends e h, n, past_same l z ends e h, none_left, q) (end_here l z ends (record { inside = a; parent = b; count = c })))
 
   line_scanned : Scanned l z (line_of l) (scan_line (l ++ z))
@@ -252,8 +251,8 @@ module _ (l z : List ℕ) (solid : Solid l) (ends : Ends z) where
 -- ---- the text, line by line
 -- the lines of a text whose first line was scanned
 abbrev pub after_line : LineRead → List ℕ → Option (List Line)
-after_line (Read m u) t = cons_of (some m) (text_lines (drop u t))
-after_line NoLine t = none
+after_line (Read m u) t = cons_of (Some m) (text_lines (drop u t))
+after_line NoLine t = None
 
 abbrev pub Takes : ℕ → LineRead → Type 0
 Takes n (Read m u) = u ≤ n

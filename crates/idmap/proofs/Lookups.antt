@@ -1,9 +1,8 @@
 -- What one turn of a loop over the lines does, in the words of the code: each law's premises are what a place knows.
 -- Assumes nothing.
-use Rattle.std.proofs.Common.{◌≡◌, ℕ, ◌+◌, ◌-◌, ◌%◌, ◌^◌, ◌<◌, ◌≤◌, Bool, true, false, ltb, List, ◌∷◌, length, drop, sym, refl, ap, ◌∙◌, le_of_lt, arith, rules, ltb-true}
+use Rattle.std.proofs.Common.{◌≡◌, ℕ, ◌+◌, ◌-◌, ◌%◌, ◌^◌, ◌<◌, ◌≤◌, Bool, true, false, ltb, List, ◌∷◌, length, drop, sym, refl, ap, ◌∙◌, le_of_lt, arith, rules, ltb-true, Some}
 use Rattle.idmap.specs.declared.Line.{Line}
 use Rattle.idmap.specs.declared.LookedUp.{LookedUp}
-use Rattle.idmap.specs.declared.Translated.TheVariants.{Id}
 use Rattle.idmap.specs.Line.{less, in_range, line_words, line_at, lines_by}
 use Rattle.idmap.specs.Lookup.{held_by, held_by_none, lookup_of, out, back}
 use Rattle.idmap.proofs.Words.{lines_step, lines_end, lines_flip}
@@ -20,7 +19,7 @@ module _ (l : Line) (id d : ℕ) (e : (d + l.inside) % 2 ^ 32 ≡ id) (h : d < 2
   pub held_left : in_range id l.inside l.count ≡ true → d ≤ l.count
   held_left t = le_of_lt (ltb-true d l.count (in_range_is id l.inside l.count d e h k ∙ t))
 
-  pub held_is : (p : ℕ) → p ≡ (l.parent + d) % 2 ^ 32 → ◌≡◌ {A = LookedUp} (record { translated = Id p; reach = l.count - d }) (held_by l id)
+  pub held_is : (p : ℕ) → p ≡ (l.parent + d) % 2 ^ 32 → ◌≡◌ {A = LookedUp} (record { translated = Some p; reach = l.count - d }) (held_by l id)
   held_is p m = rw (m, less_is id l.inside d e h k)
 
 -- lookup: what the lines from place i on answer

@@ -1,9 +1,8 @@
 -- How far a lookup holds: its count is 0 exactly where the ID is unmapped, and through a good map it is the number of IDs
 -- from this one to the end of its line, which translate by the same offset. Coming back, it is the same law of the lines
 -- with their sides exchanged. Assumes nothing.
-use Rattle.std.proofs.Common.{◌≡◌, ℕ, zero, suc, ◌+◌, ◌-◌, ◌^◌, ◌<◌, true, false, ◌↔◌, List, [], ◌∷◌, map, length, get_or, sym, refl, ap, ◌∙◌, arith, ltb-true}
+use Rattle.std.proofs.Common.{◌≡◌, ℕ, zero, suc, ◌+◌, ◌-◌, ◌^◌, ◌<◌, true, false, ◌↔◌, List, [], ◌∷◌, map, length, get_or, sym, refl, ap, ◌∙◌, arith, ltb-true, Some, None}
 use Rattle.idmap.specs.declared.Line.{Line}
-use Rattle.idmap.specs.declared.Translated.TheVariants.{Id, Unmapped}
 use Rattle.idmap.specs.Line.{less, in_range, no_line}
 use Rattle.idmap.specs.Lookup.{moved_by, left_from, out, reach_of, flip, back, Reaches}
 use Rattle.idmap.specs.Good.{good_of, Within}
@@ -28,7 +27,7 @@ module _ (l : Line) (ls : List Line) (x : ℕ) where
   some_left t = let h = ltb-true (less x l.inside) l.count t in omega arith
 
 -- ---- on any lines: 0 exactly where the ID is unmapped
-none_unmapped : (ls : List Line) (x : ℕ) → reach_of ls x ≡ 0 → out ls x ≡ Unmapped
+none_unmapped : (ls : List Line) (x : ℕ) → reach_of ls x ≡ 0 → out ls x ≡ None
 unfolding out
 none_unmapped [] x e = refl
 none_unmapped (l ∷ ls) x e =
@@ -36,7 +35,7 @@ none_unmapped (l ∷ ls) x e =
     (λ t. let h = some_left l ls x t in let z = sym (reach_here l ls x t) ∙ e in absurd (omega arith))
     (λ t. out_later l ls x t ∙ none_unmapped ls x (sym (reach_later l ls x t) ∙ e))
 
-unmapped_none : (ls : List Line) (x : ℕ) → out ls x ≡ Unmapped → reach_of ls x ≡ 0
+unmapped_none : (ls : List Line) (x : ℕ) → out ls x ≡ None → reach_of ls x ≡ 0
 unfolding reach_of
 unmapped_none [] x e = refl
 unmapped_none (l ∷ ls) x e =
@@ -44,7 +43,7 @@ unmapped_none (l ∷ ls) x e =
     (λ t. absurd (two_answers (sym e ∙ out_here l ls x t)))
     (λ t. reach_later l ls x t ∙ unmapped_none ls x (sym (out_later l ls x t) ∙ e))
 
-pub reach_none : (ls : List Line) (x : ℕ) → (reach_of ls x ≡ 0) ↔ (out ls x ≡ Unmapped)
+pub reach_none : (ls : List Line) (x : ℕ) → (reach_of ls x ≡ 0) ↔ (out ls x ≡ None)
 reach_none ls x = (none_unmapped ls x, unmapped_none ls x)
 
 -- ---- through a good map
@@ -87,7 +86,7 @@ module _ (l : Line) (ls : List Line) (g : good_of (l ∷ ls) ≡ true) (x y : �
         same_offset = λ i h.
             let here = interval_in (x + i) l.inside l.count (omega arith) fits (omega arith, omega arith) in
             let from = moved_is l b x small t in
-            out_here l ls (x + i) here ∙ ap Id (moved_is l b (x + i) (omega arith) here ∙ omega arith);
+            out_here l ls (x + i) here ∙ ap Some (moved_is l b (x + i) (omega arith) here ∙ omega arith);
       }
 
   -- a later one does, so the first line holds none of the IDs
@@ -108,7 +107,7 @@ module _ (l : Line) (ls : List Line) (g : good_of (l ∷ ls) ≡ true) (x y : �
   }
 
 -- each of that many IDs from x on, and no further one of its line, translates by the same offset
-pub reaches : (ls : List Line) (x y : ℕ) → good_of ls ≡ true → x < 2 ^ 32 → out ls x ≡ Id y → Reaches ls x y (reach_of ls x)
+pub reaches : (ls : List Line) (x y : ℕ) → good_of ls ≡ true → x < 2 ^ 32 → out ls x ≡ Some y → Reaches ls x y (reach_of ls x)
 unfolding out
 reaches [] x y g small e = absurd (two_answers e)
 reaches (l ∷ ls) x y g small e =
@@ -116,5 +115,5 @@ reaches (l ∷ ls) x y g small e =
     (λ t. let y-is : moved_by l x ≡ y = cc (out_here l ls x t) in rw (reach_here l ls x t) (reaches_here l ls g x y small t y-is))
     (λ t. rw (reach_later l ls x t) (reaches_later l ls g x y small (reach_of ls x) (reaches ls x y (good_others l ls g) small (sym (out_later l ls x t) ∙ e))))
 
-pub reaches_back : (ls : List Line) (y x : ℕ) → good_of ls ≡ true → y < 2 ^ 32 → back ls y ≡ Id x → Reaches (map flip ls) y x (reach_of (map flip ls) y)
+pub reaches_back : (ls : List Line) (y x : ℕ) → good_of ls ≡ true → y < 2 ^ 32 → back ls y ≡ Some x → Reaches (map flip ls) y x (reach_of (map flip ls) y)
 reaches_back ls y x g small e = reaches (map flip ls) y x (flip_good ls g) small e

@@ -1,6 +1,5 @@
 -- What is written as text is read back as the same lines. Assumes nothing.
-use Rattle.std.proofs.Common.{◌≡◌, ℕ, zero, suc, ◌+◌, ◌-◌, ◌*◌, ◌/◌, ◌%◌, ◌^◌, ◌<◌, ◌≤◌, true, cond, eqb, leb, List, [], ◌∷◌, ◌++◌, length, drop, sym, refl, ◌∙◌, append-nil, arith, length-append, ne_eqb, eqb-true, le-leb}
-use mathlib.Core.Option.{Option, none, some}
+use Rattle.std.proofs.Common.{◌≡◌, ℕ, zero, suc, ◌+◌, ◌-◌, ◌*◌, ◌/◌, ◌%◌, ◌^◌, ◌<◌, ◌≤◌, true, cond, eqb, leb, List, [], ◌∷◌, ◌++◌, length, drop, sym, refl, ◌∙◌, append-nil, arith, length-append, ne_eqb, eqb-true, le-leb, Option, Some, None}
 use lib.Seq.{append_snoc}
 use Rattle.idmap.specs.declared.Line.{Line}
 use Rattle.idmap.specs.Good.{max_lines, no_id, good_of}
@@ -37,7 +36,7 @@ numbers_blank (suc k) s = rw (append_snoc (shown k 0) 32 s) (numbers_blank k (32
 
 -- v and then the digits at the front are one number, before the others
 read_from : ℕ → List ℕ → Option (List ℕ)
-read_from v s = cons_of (cond (leb (value v s) no_id) (some (value v s)) none) (numbers_of (drop (span is_digit s) s))
+read_from v s = cons_of (cond (leb (value v s) no_id) (Some (value v s)) None) (numbers_of (drop (span is_digit s) s))
 
 reads_zero : (s : List ℕ) → 0 < span is_digit s → numbers_of s ≡ read_from 0 s
 unfolding read_from
@@ -68,19 +67,19 @@ unfolding span value
 value_none v [] e = refl
 value_none v (c ∷ s) e = by_test (is_digit c) (λ t. absurd (let z : suc (span is_digit s) ≡ 0 = rw t at e in omega arith)) (λ t. rw t)
 
-reads_none : (v : ℕ) (s : List ℕ) → v ≤ no_id → span is_digit s ≡ 0 → read_from v s ≡ cons_of (some v) (numbers_of s)
+reads_none : (v : ℕ) (s : List ℕ) → v ≤ no_id → span is_digit s ≡ 0 → read_from v s ≡ cons_of (Some v) (numbers_of s)
 unfolding read_from
 reads_none v s h e = rw (value_none v s e, le-leb v no_id h, e)
 
 -- the text of a number before what starts with no digit is that number
-pub number_reads : (n : ℕ) (s : List ℕ) → n ≤ no_id → span is_digit s ≡ 0 → numbers_of (number_text n ++ s) ≡ cons_of (some n) (numbers_of s)
+pub number_reads : (n : ℕ) (s : List ℕ) → n ≤ no_id → span is_digit s ≡ 0 → numbers_of (number_text n ++ s) ≡ cons_of (Some n) (numbers_of s)
 unfolding number_text
 number_reads n s h e =
     rw (append_snoc (shown 9 (n / 10)) (last_digit n) s)
     (shown_reads 9 (n / 10) (last_digit n ∷ s) (omega arith) (span_digit n s) ∙ reads_digit n s ∙ reads_none n s h e)
 
 -- ---- a line's columns
-pub line_reads : (l : Line) → Narrow l → line_of (line_columns l) ≡ some l
+pub line_reads : (l : Line) → Narrow l → line_of (line_columns l) ≡ Some l
 unfolding line_of three_of cons_of line_columns span
 line_reads l h =
     let a = l.inside in
@@ -122,14 +121,14 @@ solid_line l =
 longer_text : (l : Line) (ls : List Line) → 0 < length (line_columns l ++ (10 ∷ lines_text ls))
 longer_text l ls = rw length-append (omega arith)
 
-pub lines_read_back : (ls : List Line) → AllNarrow ls → text_lines (lines_text ls) ≡ some ls
+pub lines_read_back : (ls : List Line) → AllNarrow ls → text_lines (lines_text ls) ≡ Some ls
 unfolding text_lines lines_text line_text all_of cons_of pieces
 lines_read_back [] h = refl
 lines_read_back (l ∷ ls) h =
     rw (append_snoc (line_columns l) 10 (lines_text ls), first_piece (line_columns l) (10 ∷ lines_text ls) (solid_line l) (at_newline (lines_text ls)) (longer_text l ls), line_reads l h.0)
     (rw (lines_read_back ls h.1))
 
-pub map_reads_back : (ls : List Line) → AllNarrow ls → good_of ls ≡ true → 1 ≤ length ls → length ls ≤ max_lines → map_lines (lines_text ls) ≡ some ls
+pub map_reads_back : (ls : List Line) → AllNarrow ls → good_of ls ≡ true → 1 ≤ length ls → length ls ≤ max_lines → map_lines (lines_text ls) ≡ Some ls
 unfolding map_lines checked
 map_reads_back ls h g low high =
     rw (lines_read_back ls h, le-leb 1 (length ls) low, le-leb (length ls) max_lines high, g)

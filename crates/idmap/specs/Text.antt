@@ -1,6 +1,5 @@
 -- The text of a map: document 01, 'Text of a map'. Assumes nothing.
-use Rattle.std.specs.Prelude.{ℕ, ◌+◌, ◌-◌, ◌*◌, Bool, true, cond, ◌&&◌, ◌||◌, List, [], ◌∷◌, ◌++◌, length, replicate, ◌==◌, nat_le}
-use Rattle.std.proofs.Math.Option.{Option, none, some}
+use Rattle.std.specs.Prelude.{ℕ, ◌+◌, ◌-◌, ◌*◌, Bool, true, cond, ◌&&◌, ◌||◌, List, [], ◌∷◌, ◌++◌, length, replicate, ◌==◌, nat_le, Option, Some, None}
 use Rattle.prelude.specs.Lists.{all_of}
 use Rattle.idmap.specs.declared.Line.{Line}
 use Rattle.idmap.specs.declared.text.Parsed.TheVariants.{Lines, Bad}
@@ -47,19 +46,19 @@ decimal v [] = v
 decimal v (c ∷ s) = decimal (v * 10 + (c - 48)) s
 
 unfoldable pub decimal_of : List ℕ → Option ℕ
-decimal_of s = cond (all_digits s && nat_le (decimal 0 s) no_id) (some (decimal 0 s)) none
+decimal_of s = cond (all_digits s && nat_le (decimal 0 s) no_id) (Some (decimal 0 s)) None
 
 -- a line: three numbers with one or more spaces or tabs between, and any before or after
 unfoldable pub numbers_of : List ℕ → Option (List ℕ)
 numbers_of line = all_of decimal_of (filled (pieces is_blank line))
 
 unfoldable pub three_of : Option (List ℕ) → Option Line
-three_of none = none
-three_of (some []) = none
-three_of (some (a ∷ [])) = none
-three_of (some (a ∷ b ∷ [])) = none
-three_of (some (a ∷ b ∷ c ∷ [])) = some (record { inside = a; parent = b; count = c })
-three_of (some (a ∷ b ∷ c ∷ d ∷ rest)) = none
+three_of None = None
+three_of (Some []) = None
+three_of (Some (a ∷ [])) = None
+three_of (Some (a ∷ b ∷ [])) = None
+three_of (Some (a ∷ b ∷ c ∷ [])) = Some (record { inside = a; parent = b; count = c })
+three_of (Some (a ∷ b ∷ c ∷ d ∷ rest)) = None
 
 unfoldable pub line_of : List ℕ → Option Line
 line_of line = three_of (numbers_of line)
@@ -70,8 +69,8 @@ text_lines text = all_of line_of (pieces is_newline text)
 
 -- the lines of a map's text: at least one, at most as many as a map has, and good; else nothing
 unfoldable pub checked : Option (List Line) → Option (List Line)
-checked none = none
-checked (some ls) = cond (nat_le 1 (length ls) && (nat_le (length ls) max_lines && good_of ls)) (some ls) none
+checked None = None
+checked (Some ls) = cond (nat_le 1 (length ls) && (nat_le (length ls) max_lines && good_of ls)) (Some ls) None
 
 unfoldable pub map_lines : List ℕ → Option (List Line)
 map_lines text = checked (text_lines text)
@@ -82,5 +81,5 @@ unfoldable pub padded : List Line → List Line
 padded ls = ls ++ replicate (max_lines - length ls) no_line
 
 unfoldable pub map_text : Option (List Line) → MapText
-map_text none = record { parsed = Bad; lines = replicate max_lines no_line }
-map_text (some ls) = record { parsed = Lines (length ls); lines = padded ls }
+map_text None = record { parsed = Bad; lines = replicate max_lines no_line }
+map_text (Some ls) = record { parsed = Lines (length ls); lines = padded ls }

@@ -1,7 +1,6 @@
 -- The reader's scan of the line at the front of a text gives what the text's definition says of its first piece.
 -- Assumes nothing.
-use Rattle.std.proofs.Common.{◌≡◌, ℕ, zero, suc, ◌+◌, ◌-◌, ◌*◌, ◌<◌, ◌≤◌, min, Bool, true, false, cond, eqb, ltb, leb, ◌⊎◌, List, [], ◌∷◌, ◌++◌, length, get_or, drop, sym, refl, ap, ◌∙◌, inl, inr, ⊎_elim, arith, length-append, length-drop, drop_of_length-le, drop-cons, drop-drop, ltb-false, ltb-true, eq-eqb, ne_eqb, eqb-true, leb-false, leb-true}
-use mathlib.Core.Option.{Option, none, some}
+use Rattle.std.proofs.Common.{◌≡◌, ℕ, zero, suc, ◌+◌, ◌-◌, ◌*◌, ◌<◌, ◌≤◌, min, Bool, true, false, cond, eqb, ltb, leb, ◌⊎◌, List, [], ◌∷◌, ◌++◌, length, get_or, drop, sym, refl, ap, ◌∙◌, inl, inr, ⊎_elim, arith, length-append, length-drop, drop_of_length-le, drop-cons, drop-drop, ltb-false, ltb-true, eq-eqb, ne_eqb, eqb-true, leb-false, leb-true, Option, Some, None}
 use lib.ListN.{get_or-append}
 use lib.Seq.{drop-append-le, drop-append-add, drop-length, get_or-append_seam}
 use borrow.Author.Tests.{eqb-false}
@@ -93,14 +92,14 @@ span_halts p (c ∷ s) = by_test (p c) (λ t. rw t (span_halts p s)) (λ t. rw t
 
 -- ---- the numbers that a line has from a place on, and the number that the scan finds there
 abbrev Few : Option (List ℕ) → Type 0
-Few x = (x ≡ none) ⊎ (x ≡ some [])
+Few x = (x ≡ None) ⊎ (x ≡ Some [])
 
 -- what a line has from place e on, and that a number found there is the first of what it had
 abbrev from : List ℕ → ℕ → Option (List ℕ)
 from l e = numbers_of (drop e l)
 
 abbrev FieldBy : List ℕ → Option (List ℕ) → Number → ℕ → Type 0
-FieldBy l x (Value v) e = (e ≤ length l) × (x ≡ cons_of (some v) (from l e))
+FieldBy l x (Value v) e = (e ≤ length l) × (x ≡ cons_of (Some v) (from l e))
 FieldBy l x NoNumber e = Few x
 
 abbrev Field : List ℕ → Option (List ℕ) → NumberRead → Type 0
@@ -164,7 +163,7 @@ unfolding ended
 ended_value s p e v h = rw (ne_eqb (seen_at s e).at p (λ k. h (sym (seen_at_lem s e) ∙ k)))
 
 -- the number that stands in the line from place p on
-digits_number : (y : List ℕ) → 0 < span is_digit y → numbers_of y ≡ cons_of (cond (leb (value 0 y) no_id) (some (value 0 y)) none) (numbers_of (drop (span is_digit y) y))
+digits_number : (y : List ℕ) → 0 < span is_digit y → numbers_of y ≡ cons_of (cond (leb (value 0 y) no_id) (Some (value 0 y)) None) (numbers_of (drop (span is_digit y) y))
 digits_number y k = numbers_front y k ∙ ap (λ (o : Option ℕ). cons_of o (numbers_of (drop (span is_digit y) y))) (number_front y)
 
 module _ (l z : List ℕ) (ends : Ends z) (p : ℕ) (h : p ≤ length l) (b : Halts is_blank (drop p l)) where
@@ -227,35 +226,35 @@ module _ (l z : List ℕ) (ends : Ends z) where
         rw (skip_in at h, past_same) (number_case l z ends (at + span is_blank (drop at l)) past_blanks past_halts)
 
 -- ---- the line: three numbers and nothing more
-few_three : (x : Option (List ℕ)) → Few x → three_of x ≡ none
+few_three : (x : Option (List ℕ)) → Few x → three_of x ≡ None
 unfolding three_of
 few_three x f = ⊎_elim (λ e. rw e) (λ e. rw e) f
 
-few_two : (a : ℕ) (x : Option (List ℕ)) → Few x → three_of (cons_of (some a) x) ≡ none
+few_two : (a : ℕ) (x : Option (List ℕ)) → Few x → three_of (cons_of (Some a) x) ≡ None
 unfolding three_of cons_of
 few_two a x f = ⊎_elim (λ e. rw e) (λ e. rw e) f
 
-few_one : (a b : ℕ) (x : Option (List ℕ)) → Few x → three_of (cons_of (some a) (cons_of (some b) x)) ≡ none
+few_one : (a b : ℕ) (x : Option (List ℕ)) → Few x → three_of (cons_of (Some a) (cons_of (Some b) x)) ≡ None
 unfolding three_of cons_of
 few_one a b x f = ⊎_elim (λ e. rw e) (λ e. rw e) f
 
-fourth : (a b c : ℕ) (o : Option ℕ) (os : Option (List ℕ)) → three_of (cons_of (some a) (cons_of (some b) (cons_of (some c) (cons_of o os)))) ≡ none
+fourth : (a b c : ℕ) (o : Option ℕ) (os : Option (List ℕ)) → three_of (cons_of (Some a) (cons_of (Some b) (cons_of (Some c) (cons_of o os)))) ≡ None
 unfolding three_of cons_of
-fourth a b c none os = refl
-fourth a b c (some d) none = refl
-fourth a b c (some d) (some ds) = refl
+fourth a b c None os = refl
+fourth a b c (Some d) None = refl
+fourth a b c (Some d) (Some ds) = refl
 
 -- what was scanned is what the line says, and leaves what follows the line
 abbrev ScannedBy : List ℕ → List ℕ → Option Line → LineParsed → ℕ → Type 0
-ScannedBy l z o (Numbers m) u = (o ≡ some m) × (drop u (l ++ z) ≡ drop 1 z)
-ScannedBy l z o NoLine u = o ≡ none
+ScannedBy l z o (Numbers m) u = (o ≡ Some m) × (drop u (l ++ z) ≡ drop 1 z)
+ScannedBy l z o NoLine u = o ≡ None
 
 record Scanned (l z : List ℕ) (o : Option Line) (r : LineRead) : Type 0 where
   says : ScannedBy l z o r.parsed r.bytes
   within : r.bytes ≤ length (l ++ z)
 
 number_by : (l z : List ℕ) (o : Option Line) (x : Option (List ℕ)) (k : Number) (c : Seen) (next : ℕ → ℕ → LineRead) → FieldBy l x k c.at
-    → c.bytes ≤ length (l ++ z) → ((v e : ℕ) → e ≤ length l → x ≡ cons_of (some v) (from l e) → Scanned l z o (next v e)) → (Few x → o ≡ none)
+    → c.bytes ≤ length (l ++ z) → ((v e : ℕ) → e ≤ length l → x ≡ cons_of (Some v) (from l e) → Scanned l z o (next v e)) → (Few x → o ≡ None)
     → Scanned l z o (number_then k c (λ v. next v c.at))
 number_by l z o x (Value v) c next f w found short = found v c.at f.0 f.1
 number_by l z o x NoNumber c next f w found short = record { says = short f; within = w }
@@ -269,7 +268,7 @@ field_within : (s : List ℕ) (at : ℕ) → (field_at s at).after.bytes ≤ len
 field_within s at = rw (field_seen s at (field_at s at) refl) (seen_within s (field_at s at).after.at)
 
 then_number_lem : (l z : List ℕ) (o : Option Line) (x : Option (List ℕ)) (at : ℕ) (next : ℕ → ℕ → LineRead) → Field l x (field_at (l ++ z) at)
-    → ((v e : ℕ) → e ≤ length l → x ≡ cons_of (some v) (from l e) → Scanned l z o (next v e)) → (Few x → o ≡ none) → Scanned l z o (then_number (field_at (l ++ z) at) next)
+    → ((v e : ℕ) → e ≤ length l → x ≡ cons_of (Some v) (from l e) → Scanned l z o (next v e)) → (Few x → o ≡ None) → Scanned l z o (then_number (field_at (l ++ z) at) next)
 then_number_lem l z o x at next f = number_by l z o x (field_at (l ++ z) at).number (field_at (l ++ z) at).after next f (field_within (l ++ z) at)
 
 -- the line's end: nothing but blanks is left of the line
@@ -281,7 +280,7 @@ other_is : (c : Seen) (m : Line) → (c.byte ≡ 10 → ⊥) → line_end c m �
 unfolding line_end
 other_is c m n = rw (ne_eqb c.byte 10 n)
 
-end_here : (l z : List ℕ) → Ends z → (m : Line) → Scanned l z (some m) (line_end (seen_at (l ++ z) (length l)) m)
+end_here : (l z : List ℕ) → Ends z → (m : Line) → Scanned l z (Some m) (line_end (seen_at (l ++ z) (length l)) m)
 unfolding seen_at
 end_here l z at_end m =
     let k = length-append l [] in
@@ -309,7 +308,7 @@ more_left l p h b =
 
 module _ (l z : List ℕ) (solid : Solid l) (ends : Ends z) where
   -- after three numbers
-  end_case : (a b c e : ℕ) → e ≤ length l → numbers_of l ≡ cons_of (some a) (cons_of (some b) (cons_of (some c) (from l e))) → Scanned l z (three_of (numbers_of l)) (line_end (seen_at (l ++ z) (skipped (l ++ z) e)) (record { inside = a; parent = b; count = c }))
+  end_case : (a b c e : ℕ) → e ≤ length l → numbers_of l ≡ cons_of (Some a) (cons_of (Some b) (cons_of (Some c) (from l e))) → Scanned l z (three_of (numbers_of l)) (line_end (seen_at (l ++ z) (skipped (l ++ z) e)) (record { inside = a; parent = b; count = c }))
   unfolding three_of cons_of
   end_case a b c e h n =
       let p = e + span is_blank (drop e l) in
@@ -322,7 +321,7 @@ module _ (l z : List ℕ) (solid : Solid l) (ends : Ends z) where
       (λ t.
       let k = ltb-false p (length l) t in
       let q : p ≡ length l = omega arith in
-      let none_left : from l p ≡ some [] = rw (q, drop-length l) numbers_none in
+      let none_left : from l p ≡ Some [] = rw (q, drop-length l) numbers_none in
       rw (skip_in l z ends e h, n, past_same l z ends e h, none_left, q) (end_here l z ends (record { inside = a; parent = b; count = c })))
 
   line_scanned : Scanned l z (line_of l) (scan_line (l ++ z))
@@ -342,8 +341,8 @@ module _ (l z : List ℕ) (solid : Solid l) (ends : Ends z) where
 -- ---- the text, line by line
 -- the lines of a text whose first line was scanned
 abbrev pub after_by : LineParsed → ℕ → List ℕ → Option (List Line)
-after_by (Numbers m) u t = cons_of (some m) (text_lines (drop u t))
-after_by NoLine u t = none
+after_by (Numbers m) u t = cons_of (Some m) (text_lines (drop u t))
+after_by NoLine u t = None
 
 abbrev pub after_line : LineRead → List ℕ → Option (List Line)
 after_line r t = after_by r.parsed r.bytes t

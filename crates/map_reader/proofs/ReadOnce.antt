@@ -1,6 +1,5 @@
 -- How many bytes the reader reads of a text: never more than there are, and all of a good one. Assumes nothing.
-use Rattle.std.proofs.Common.{◌≡◌, ℕ, zero, suc, ◌+◌, ◌<◌, ◌≤◌, ◌&&◌, leb, List, [], ◌∷◌, length, drop, sym, refl, ap, ◌∙◌, arith, length-drop, leb-true}
-use mathlib.Core.Option.{Option, none, some, some-injective}
+use Rattle.std.proofs.Common.{◌≡◌, ℕ, zero, suc, ◌+◌, ◌<◌, ◌≤◌, ◌&&◌, leb, List, [], ◌∷◌, length, drop, sym, refl, ap, ◌∙◌, arith, length-drop, leb-true, Option, Some, None}
 use Rattle.prelude.proofs.Tests.{by_test, both}
 use Rattle.prelude.proofs.Made.{some_none, cons_some}
 use Rattle.idmap.specs.declared.Line.{Line}
@@ -44,11 +43,11 @@ bytes_within (suc k) (c ∷ s) =
     rw (bytes_step k t (omega arith)) (line_within (scan_line t).parsed u (bytes_from k (drop u t)) (length t) h (omega arith))
 
 -- ---- all of a text that is lines, if these are no more than are looked at
-line_whole : (p : LineParsed) (u k : ℕ) (t : List ℕ) (ls : List Line) → u ≤ length t → length ls ≤ suc k → after_by p u t ≡ some ls
-    → ((ms : List Line) → length ms ≤ k → text_lines (drop u t) ≡ some ms → bytes_from k (drop u t) ≡ length (drop u t))
+line_whole : (p : LineParsed) (u k : ℕ) (t : List ℕ) (ls : List Line) → u ≤ length t → length ls ≤ suc k → after_by p u t ≡ Some ls
+    → ((ms : List Line) → length ms ≤ k → text_lines (drop u t) ≡ Some ms → bytes_from k (drop u t) ≡ length (drop u t))
     → line_then p u (bytes_from k (drop u t)) ≡ length t
 line_whole (Numbers m) u k t ls h few e rest =
-    let c = cons_some (some m) (text_lines (drop u t)) ls e in
+    let c = cons_some (Some m) (text_lines (drop u t)) ls e in
     let n : length ls ≡ suc (length c.1) = ap length c.4 in
     let d = length-drop u t in
     let r = rest c.1 (omega arith) c.3 in
@@ -56,20 +55,20 @@ line_whole (Numbers m) u k t ls h few e rest =
 line_whole NoLine u k t ls h few e rest = absurd (some_none (sym e))
 
 -- no lines, no text
-none_whole : (t : List ℕ) (ls : List Line) → length ls ≤ 0 → text_lines t ≡ some ls → 0 ≡ length t
+none_whole : (t : List ℕ) (ls : List Line) → length ls ≤ 0 → text_lines t ≡ Some ls → 0 ≡ length t
 none_whole [] ls few e = refl
 none_whole (c ∷ s) ls few e =
     let t = c ∷ s in
     absurd (left_over (scan_line t).parsed (scan_line t).bytes t ls few (sym (text_step t (omega arith)) ∙ e))
   where
-    left_over : (p : LineParsed) (u : ℕ) (t : List ℕ) (ls : List Line) → length ls ≤ 0 → after_by p u t ≡ some ls → ⊥
+    left_over : (p : LineParsed) (u : ℕ) (t : List ℕ) (ls : List Line) → length ls ≤ 0 → after_by p u t ≡ Some ls → ⊥
     left_over (Numbers m) u t ls few e =
-        let c = cons_some (some m) (text_lines (drop u t)) ls e in
+        let c = cons_some (Some m) (text_lines (drop u t)) ls e in
         let n : length ls ≡ suc (length c.1) = ap length c.4 in
         omega arith
     left_over NoLine u t ls few e = some_none (sym e)
 
-bytes_whole : (k : ℕ) (t : List ℕ) (ls : List Line) → length ls ≤ k → text_lines t ≡ some ls → bytes_from k t ≡ length t
+bytes_whole : (k : ℕ) (t : List ℕ) (ls : List Line) → length ls ≤ k → text_lines t ≡ Some ls → bytes_from k t ≡ length t
 bytes_whole zero t ls few e = bytes_none t ∙ none_whole t ls few e
 bytes_whole (suc k) [] ls few e = bytes_end (suc k)
 bytes_whole (suc k) (c ∷ s) ls few e =
@@ -79,17 +78,17 @@ bytes_whole (suc k) (c ∷ s) ls few e =
     (line_whole (scan_line t).parsed u k t ls (line_takes t) few (sym (text_step t (omega arith)) ∙ e) (λ ms h f. bytes_whole k (drop u t) ms h f))
 
 -- a good text is lines, and no more of them than a map has
-checked_some : (o : Option (List Line)) (ls : List Line) → checked o ≡ some ls → (o ≡ some ls) × (length ls ≤ max_lines)
+checked_some : (o : Option (List Line)) (ls : List Line) → checked o ≡ Some ls → (o ≡ Some ls) × (length ls ≤ max_lines)
 unfolding checked
-checked_some none ls e = absurd (some_none (sym e))
-checked_some (some ms) ls e =
+checked_some None ls e = absurd (some_none (sym e))
+checked_some (Some ms) ls e =
     let test = leb 1 (length ms) && (leb (length ms) max_lines && good_of ms) in
     by_test test
     (λ t.
     let few = leb-true (length ms) max_lines (both (leb (length ms) max_lines) (good_of ms) (both (leb 1 (length ms)) (leb (length ms) max_lines && good_of ms) t).1).0 in
-    let same : some ms ≡ some ls = rw t at e in
+    let same : Some ms ≡ Some ls = rw t at e in
     (same, rw (some-injective ms ls same) at few))
-    (λ t. absurd (let none-some : none ≡ some ls = rw t at e in some_none (sym none-some)))
+    (λ t. absurd (let none-some : None ≡ Some ls = rw t at e in some_none (sym none-some)))
 
 -- ---- document 02, L2
 pub read_once : (text : List ℕ) → ReadOnce text

@@ -1,7 +1,6 @@
 -- The reader's loop over the lines of a text, turn by turn, in the words of the code. Assumes nothing.
-use Rattle.std.proofs.Common.{◌≡◌, ℕ, suc, ◌+◌, ◌-◌, ◌^◌, ◌<◌, ◌≤◌, Bool, true, false, cond, ◌&&◌, leb, List, [], ◌∷◌, ◌++◌, length, take, drop, set, replicate, sym, refl, ap, ◌∙◌, append_assoc, append-nil, add-one, arith, length-append, length-drop, drop_of_length-le, length-take-le, take_all, drop-drop, take-suc-set, w64, Fits, rules, le-leb}
+use Rattle.std.proofs.Common.{◌≡◌, ℕ, suc, ◌+◌, ◌-◌, ◌^◌, ◌<◌, ◌≤◌, Bool, true, false, cond, ◌&&◌, leb, List, [], ◌∷◌, ◌++◌, length, take, drop, set, replicate, sym, refl, ap, ◌∙◌, append_assoc, append-nil, add-one, arith, length-append, length-drop, drop_of_length-le, length-take-le, take_all, drop-drop, take-suc-set, w64, Fits, rules, le-leb, Option, Some, None}
 use mathlib.Core.Bool.{and-false}
-use mathlib.Core.Option.{Option, none, some}
 use borrow.Author.Tests.{lt-leb}
 use Rattle.prelude.specs.Lists.{cons_of, all_of}
 use Rattle.prelude.proofs.Lists.{made_so_far, rest_empty}
@@ -30,18 +29,18 @@ map_read s r e = ap (λ (x : TextRead). x.map) e
 
 -- ---- lines in front of the lines of a text
 prepended : List Line → Option (List Line) → Option (List Line)
-prepended ls none = none
-prepended ls (some ms) = some (ls ++ ms)
+prepended ls None = None
+prepended ls (Some ms) = Some (ls ++ ms)
 
 prepended_nothing : (o : Option (List Line)) → prepended [] o ≡ o
 unfolding prepended
-prepended_nothing none = refl
-prepended_nothing (some ms) = refl
+prepended_nothing None = refl
+prepended_nothing (Some ms) = refl
 
-prepended_next : (ls : List Line) (l : Line) (o : Option (List Line)) → prepended ls (cons_of (some l) o) ≡ prepended (ls ++ (l ∷ [])) o
+prepended_next : (ls : List Line) (l : Line) (o : Option (List Line)) → prepended ls (cons_of (Some l) o) ≡ prepended (ls ++ (l ∷ [])) o
 unfolding prepended cons_of
-prepended_next ls l none = refl
-prepended_next ls l (some ms) = ap some (sym (append_assoc ls (l ∷ []) ms))
+prepended_next ls l None = refl
+prepended_next ls l (Some ms) = ap Some (sym (append_assoc ls (l ∷ []) ms))
 
 -- ---- the text's lines, of which the first n are in ls, and the rest start at place at
 pub lines_from : List ℕ → List Line → ℕ → ℕ → Option (List Line)
@@ -52,14 +51,14 @@ unfolding lines_from
 lines_start s ls = sym (prepended_nothing (text_lines s))
 
 -- too many lines
-too_many : (ls : List Line) → length ls ≡ max_lines → (l : Line) (o : Option (List Line)) → checked (prepended ls (cons_of (some l) o)) ≡ none
+too_many : (ls : List Line) → length ls ≡ max_lines → (l : Line) (o : Option (List Line)) → checked (prepended ls (cons_of (Some l) o)) ≡ None
 unfolding checked prepended cons_of
-too_many ls e l none = refl
-too_many ls e l (some ms) =
+too_many ls e l None = refl
+too_many ls e l (Some ms) =
     let k = length-append ls (l ∷ ms) in
     rw (lt-leb (length (ls ++ (l ∷ ms))) max_lines (omega arith), and-false)
 
-sixth : (ls : List Line) (t : List ℕ) (p : LineParsed) (u : ℕ) → length ls ≡ max_lines → checked (prepended ls (after_by p u t)) ≡ none
+sixth : (ls : List Line) (t : List ℕ) (p : LineParsed) (u : ℕ) → length ls ≡ max_lines → checked (prepended ls (after_by p u t)) ≡ None
 unfolding checked prepended
 sixth ls t (Numbers l) u e = too_many ls e l (text_lines (drop u t))
 sixth ls t NoLine u e = refl
@@ -68,7 +67,7 @@ sixth ls t NoLine u e = refl
 part_is : (s : List ℕ) (at : ℕ) → take (length s - at) (drop at s) ≡ drop at s
 part_is s at = take_all (length s - at) (drop at s) (simp length-drop (omega arith))
 
-no_lines : text_lines [] ≡ some []
+no_lines : text_lines [] ≡ Some []
 unfolding text_lines pieces all_of
 no_lines = refl
 
@@ -82,7 +81,7 @@ bytes_start s = omega arith
 
 -- what is answered at a place where nothing more is read
 module _ (s : List ℕ) (k : ℕ) (counted : k ≡ bytes_read s) where
-  answered_bad : (r : TextRead) → r ≡ bad_text k → map_lines s ≡ none → r ≡ text_read s
+  answered_bad : (r : TextRead) → r ≡ bad_text k → map_lines s ≡ None → r ≡ text_read s
   unfolding bad_text text_read
   answered_bad r e n = e ∙ rw (n, counted)
 
@@ -98,7 +97,7 @@ module _ (s : List ℕ) (ls : List Line) (n at : ℕ) (inv : text_lines s ≡ li
       (rw (inv, text_step (drop at s) (omega arith)) (sixth (take n ls) (drop at s) (scan_line (drop at s)).parsed (scan_line (drop at s)).bytes (length-take-le n ls (omega arith) ∙ e)))
 
   module _ (end : length s ≤ at) (small : n ≤ max_lines) (k : length ls ≡ max_lines) where
-    all_read : text_lines s ≡ some (take n ls)
+    all_read : text_lines s ≡ Some (take n ls)
     unfolding lines_from prepended
     all_read = inv ∙ rw (drop_of_length-le s {i = at} end, no_lines, append-nil)
 
@@ -110,7 +109,7 @@ module _ (s : List ℕ) (ls : List Line) (n at : ℕ) (inv : text_lines s ≡ li
         omega arith
 
     -- the test of the lines read
-    tested : checked (text_lines s) ≡ cond (leb 1 n && good_of (take n ls)) (some (take n ls)) none
+    tested : checked (text_lines s) ≡ cond (leb 1 n && good_of (take n ls)) (Some (take n ls)) None
     unfolding checked
     tested = rw (all_read, length-take-le n ls (omega arith), le-leb n max_lines small)
 

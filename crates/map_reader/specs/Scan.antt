@@ -1,8 +1,7 @@
 -- How the reader goes over a text, and how many bytes it reads: what its inner functions answer, from a place on. That
 -- this is the text's meaning is proved from `idmap`'s specs/Text.antt, which alone is to be believed; `ReadOnce` says what is
 -- promised of the count. Assumes nothing.
-use Rattle.std.specs.Prelude.{◌≡◌, ℕ, zero, suc, ◌+◌, ◌-◌, ◌*◌, ◌≤◌, min, cond, List, [], ◌∷◌, length, drop, ◌==◌, nat_le, nat_lt, slice_index}
-use Rattle.std.proofs.Math.Option.{none, some}
+use Rattle.std.specs.Prelude.{◌≡◌, ℕ, zero, suc, ◌+◌, ◌-◌, ◌*◌, ◌≤◌, min, cond, List, [], ◌∷◌, length, drop, ◌==◌, nat_le, nat_lt, slice_index, Some, None}
 use Rattle.idmap.specs.declared.Line.{Line}
 use Rattle.map_reader.specs.declared.text.Seen.{Seen}
 use Rattle.map_reader.specs.declared.text.Number.{Number}
@@ -91,11 +90,11 @@ bytes_read text = bytes_from max_lines text
 -- document 02, L2: never over the text's length, and equal to it for a good text
 pub record ReadOnce (text : List ℕ) : Type 0 where
   pub within : bytes_read text ≤ length text
-  pub whole : (ls : List Line) → map_lines text ≡ some ls → bytes_read text ≡ length text
+  pub whole : (ls : List Line) → map_lines text ≡ Some ls → bytes_read text ≡ length text
 
 -- ---- the same as the value that the reader answers
 unfoldable pub bad_text : ℕ → TextRead
-bad_text bytes = record { map = map_text none; bytes = bytes }
+bad_text bytes = record { map = map_text None; bytes = bytes }
 
 unfoldable pub text_read : List ℕ → TextRead
 text_read text = record { map = map_text (map_lines text); bytes = bytes_read text }

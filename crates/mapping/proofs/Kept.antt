@@ -1,4 +1,5 @@
 -- A read that is refused leaves every byte of the buffer as it was. Assumes nothing.
+use Rattle.std.specs.Prelude.{Option, Some, None}
 use Prim.Native.Nat.{ℕ}
 use mathlib.Core.Path.{◌≡◌, refl}
 use mathlib.Core.Bool.{true, false, false≢true}
@@ -6,8 +7,6 @@ use mathlib.Core.List.{List}
 use Rattle.prelude.specs.Parts.{fits_at, put_at}
 use Rattle.prelude.proofs.Tests.{by_test}
 use Rattle.records.specs.declared.Kind.{Kind}
-use Rattle.tables.specs.declared.find.Found.{Found}
-use Rattle.tables.specs.declared.find.Found.TheVariants.{At, Nothing}
 use Rattle.tables.specs.Tables.{State}
 use Rattle.tables.specs.Find.{caller_named, process_named}
 use Rattle.tables.specs.Reply.{refused, is_refused, on_found}
@@ -25,9 +24,9 @@ text_kept text buffer e =
     (λ t. let z : false ≡ true = rw t at e in absurd (false≢true z))
     (λ t. rw t)
 
-found_kept : (buffer : List ℕ) (r : Found) (next : ℕ → ReadOutcome) → ((i : ℕ) → Leaves buffer (next i)) → Leaves buffer (on_found r (record { reply = refused 3; buffer = buffer }) next)
-found_kept buffer (At i) next h = h i
-found_kept buffer Nothing next h = λ e. refl
+found_kept : (buffer : List ℕ) (r : Option ℕ) (next : ℕ → ReadOutcome) → ((i : ℕ) → Leaves buffer (next i)) → Leaves buffer (on_found r (record { reply = refused 3; buffer = buffer }) next)
+found_kept buffer (Some i) next h = h i
+found_kept buffer None next h = λ e. refl
 
 pub read_map_kept : (by : Translation) (s : State) (kind : Kind) (c name : ℕ) (buffer : List ℕ) → Leaves buffer (read_map_of by s kind c name buffer)
 unfolding read_map_of

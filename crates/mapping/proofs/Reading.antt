@@ -1,5 +1,6 @@
 -- Reads of a map and of the setgroups setting, step by step, in the words of the code: each law's premises are what a
 -- place knows. Assumes nothing.
+use Rattle.std.specs.Prelude.{Option, Some, None}
 use Prim.Native.Nat.{ℕ, ◌+◌, ◌*◌, ◌≤◌, ◌<◌, min}
 use mathlib.Core.Path.{◌≡◌, refl, sym, ap, ◌∙◌}
 use mathlib.Core.Bool.{Bool, true, false}
@@ -19,8 +20,6 @@ use Rattle.prelude.proofs.Tests.{by_test}
 use Rattle.prelude.specs.Parts.{fits_at, put_at}
 use Rattle.prelude.proofs.Parts.{fits_inside, fits_outside, put_inside, put_outside, length_put}
 use Rattle.idmap.specs.declared.Line.{Line}
-use Rattle.idmap.specs.declared.Translated.{Translated}
-use Rattle.idmap.specs.declared.Translated.TheVariants.{Id, Unmapped}
 use Rattle.idmap.specs.Lookup.{or_no_id}
 use Rattle.idmap.specs.Good.{max_lines, no_id}
 use Rattle.idmap.specs.Show.{line_bytes, line_text, lines_text}
@@ -32,8 +31,6 @@ use Rattle.records.specs.declared.IdMap.{IdMap}
 use Rattle.records.specs.declared.Process.{Process}
 use Rattle.records.specs.declared.Namespace.{Namespace}
 use Rattle.records.specs.Records.{map_in, lines_if}
-use Rattle.tables.specs.declared.find.Found.{Found}
-use Rattle.tables.specs.declared.find.Found.TheVariants.{At, Nothing}
 use Rattle.tables.specs.Tables.{State, process_at, namespace_at}
 use Rattle.tables.specs.Find.{caller_named, process_named}
 use Rattle.tables.specs.Reply.{refused, bytes}
@@ -53,14 +50,14 @@ module _ (s : State) (r : Process) (n : ℕ) where
   view_own e = rw (ne_eqb r.namespace n e)
 
 -- ---- shown
-module _ (s : State) (kind : Kind) (n v : ℕ) (l : Line) (t : Namespace) (read : t ≡ namespace_at s n) (a : Translated)
+module _ (s : State) (kind : Kind) (n v : ℕ) (l : Line) (t : Namespace) (read : t ≡ namespace_at s n) (a : Option ℕ)
     (start : a ≡ to_kernel s kind t.parent l.parent) where
-  pub shown_id : (x y : ℕ) (b : Translated) → a ≡ Id x → b ≡ from_kernel s kind v x → y ≡ or_no_id b
+  pub shown_id : (x y : ℕ) (b : Option ℕ) → a ≡ Some x → b ≡ from_kernel s kind v x → y ≡ or_no_id b
       → ◌≡◌ {A = Line} (record { inside = l.inside; parent = y; count = l.count }) (shown_line (by_kernel_starts s) s kind n v l)
   unfolding shown_line by_kernel_starts
   shown_id x y b e f g = rw (g, f, ← read, ← start, e)
 
-  pub shown_none : a ≡ Unmapped → ◌≡◌ {A = Line} (record { inside = l.inside; parent = no_id; count = l.count }) (shown_line (by_kernel_starts s) s kind n v l)
+  pub shown_none : a ≡ None → ◌≡◌ {A = Line} (record { inside = l.inside; parent = no_id; count = l.count }) (shown_line (by_kernel_starts s) s kind n v l)
   unfolding shown_line by_kernel_starts
   shown_none e = rw (← read, ← start, e)
 
@@ -136,17 +133,17 @@ lines_counted (Written n) ls e = by_test (leb n 5)
     (λ t. let h = leb-true n max_lines t in let k : n ≡ min n max_lines = omega arith in rw (← k))
     (λ t. let h = leb-false n max_lines t in take_all n ls (omega arith) ∙ sym (take_all (min n max_lines) ls (omega arith)))
 
-module _ (by : Translation) (s : State) (kind : Kind) (c name : ℕ) (b : List ℕ) (f : Found) (caller : f ≡ caller_named s c) where
-  pub map_no_reader : f ≡ Nothing → ◌≡◌ {A = ReadOutcome} (record { reply = refused 3; buffer = b }) (read_map_of by s kind c name b)
+module _ (by : Translation) (s : State) (kind : Kind) (c name : ℕ) (b : List ℕ) (f : Option ℕ) (caller : f ≡ caller_named s c) where
+  pub map_no_reader : f ≡ None → ◌≡◌ {A = ReadOutcome} (record { reply = refused 3; buffer = b }) (read_map_of by s kind c name b)
   unfolding read_map_of
   map_no_reader e = rw (← caller, e)
 
-  module _ (i : ℕ) (reader : f ≡ At i) (g : Found) (named : g ≡ process_named s i name) where
-    pub map_no_process : g ≡ Nothing → ◌≡◌ {A = ReadOutcome} (record { reply = refused 3; buffer = b }) (read_map_of by s kind c name b)
+  module _ (i : ℕ) (reader : f ≡ Some i) (g : Option ℕ) (named : g ≡ process_named s i name) where
+    pub map_no_process : g ≡ None → ◌≡◌ {A = ReadOutcome} (record { reply = refused 3; buffer = b }) (read_map_of by s kind c name b)
     unfolding read_map_of
     map_no_process e = rw (← caller, reader, ← named, e)
 
-    module _ (j : ℕ) (place : g ≡ At j) (p : Process) (process : p ≡ process_at s j) (t : Namespace) (target : t ≡ namespace_at s p.namespace)
+    module _ (j : ℕ) (place : g ≡ Some j) (p : Process) (process : p ≡ process_at s j) (t : Namespace) (target : t ≡ namespace_at s p.namespace)
         (m : IdMap) (read : m ≡ map_in kind t) (long : length m.lines ≡ max_lines) (k : ℕ) (count : k ≡ line_count m.state) where
       map_text_lem : (r : Process) → r ≡ process_at s i
           → read_map_of by s kind c name b ≡ read_text (lines_text (map (shown_line by s kind p.namespace (view_of s r p.namespace)) (take k m.lines))) b
@@ -188,17 +185,17 @@ module _ (text b : List ℕ) (r : Bool) (fits : r ≡ fits_at b 0 text) (b' : Li
   word_long e = rw (← fits, e, put)
 
 -- ---- read_setgroups
-module _ (s : State) (c name : ℕ) (b : List ℕ) (f : Found) (caller : f ≡ caller_named s c) where
-  pub setting_no_reader : f ≡ Nothing → ◌≡◌ {A = ReadOutcome} (record { reply = refused 3; buffer = b }) (read_setgroups_of s c name b)
+module _ (s : State) (c name : ℕ) (b : List ℕ) (f : Option ℕ) (caller : f ≡ caller_named s c) where
+  pub setting_no_reader : f ≡ None → ◌≡◌ {A = ReadOutcome} (record { reply = refused 3; buffer = b }) (read_setgroups_of s c name b)
   unfolding read_setgroups_of
   setting_no_reader e = rw (← caller, e)
 
-  module _ (i : ℕ) (reader : f ≡ At i) (g : Found) (named : g ≡ process_named s i name) where
-    pub setting_no_process : g ≡ Nothing → ◌≡◌ {A = ReadOutcome} (record { reply = refused 3; buffer = b }) (read_setgroups_of s c name b)
+  module _ (i : ℕ) (reader : f ≡ Some i) (g : Option ℕ) (named : g ≡ process_named s i name) where
+    pub setting_no_process : g ≡ None → ◌≡◌ {A = ReadOutcome} (record { reply = refused 3; buffer = b }) (read_setgroups_of s c name b)
     unfolding read_setgroups_of
     setting_no_process e = rw (← caller, reader, ← named, e)
 
-    module _ (j : ℕ) (place : g ≡ At j) (p : Process) (process : p ≡ process_at s j) (t : Namespace) (target : t ≡ namespace_at s p.namespace) where
+    module _ (j : ℕ) (place : g ≡ Some j) (p : Process) (process : p ≡ process_at s j) (t : Namespace) (target : t ≡ namespace_at s p.namespace) where
       pub setting_deny : (o : ReadOutcome) → t.deny ≡ true → o ≡ read_text (deny_text ++ (10 ∷ [])) b → o ≡ read_setgroups_of s c name b
       unfolding read_setgroups_of setting_text
       setting_deny o e q = rw (← caller, reader, ← named, place, ← process, ← target, e) q

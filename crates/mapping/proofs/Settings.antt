@@ -1,9 +1,9 @@
 -- The write of the setgroups setting, step by step, in the words of the code: each law's premises are what a place
 -- knows. Assumes nothing.
+use Rattle.std.specs.Prelude.{Option, Some, None}
 use Prim.Native.Nat.{ℕ, suc, ◌+◌, ◌≤◌, ◌<◌}
 use mathlib.Core.Path.{◌≡◌, refl, sym, ap, ◌∙◌}
 use mathlib.Core.Bool.{Bool, true, false, ◌&&◌}
-use mathlib.Core.Option.{Option, none, some}
 use mathlib.Core.List.{List, [], ◌∷◌, ◌++◌}
 use native.Mathlib.Numerals.{add-one}
 use native.Mathlib.Omega.{arith}
@@ -20,8 +20,6 @@ use Rattle.records.specs.Records.{is_written, with_deny}
 use Rattle.tables.specs.declared.answer.Errno.TheVariants.{EPERM, ESRCH, EINVAL}
 use Rattle.tables.specs.declared.answer.Answer.{Answer}
 use Rattle.tables.specs.declared.answer.Answer.TheVariants.{Refused, Done}
-use Rattle.tables.specs.declared.find.Found.{Found}
-use Rattle.tables.specs.declared.find.Found.TheVariants.{At, Nothing}
 use Rattle.tables.specs.Tables.{tables_of, process_at, namespace_at, put_namespace}
 use Rattle.tables.specs.Find.{caller_named, process_named}
 use Rattle.tables.specs.Reply.{Promise}
@@ -88,20 +86,20 @@ module _ (text : List ℕ) (d : Bool) (deny : d ≡ same_bytes text deny_text) w
         asked_neither e = rw (← deny, no, ← deny-line, no₁, ← allow, no₂, ← allow-line, e)
 
 -- ---- write_to
-setting_deny : (s : Setting) (o : Option Bool) → s ≡ setting_of o → s ≡ Deny → o ≡ some true
-setting_deny s none e q = let z : Neither ≡ Deny = sym e ∙ q in cc
-setting_deny s (some true) e q = refl
-setting_deny s (some false) e q = let z : Allow ≡ Deny = sym e ∙ q in cc
+setting_deny : (s : Setting) (o : Option Bool) → s ≡ setting_of o → s ≡ Deny → o ≡ Some true
+setting_deny s None e q = let z : Neither ≡ Deny = sym e ∙ q in cc
+setting_deny s (Some true) e q = refl
+setting_deny s (Some false) e q = let z : Allow ≡ Deny = sym e ∙ q in cc
 
-setting_allow : (s : Setting) (o : Option Bool) → s ≡ setting_of o → s ≡ Allow → o ≡ some false
-setting_allow s none e q = let z : Neither ≡ Allow = sym e ∙ q in cc
-setting_allow s (some true) e q = let z : Deny ≡ Allow = sym e ∙ q in cc
-setting_allow s (some false) e q = refl
+setting_allow : (s : Setting) (o : Option Bool) → s ≡ setting_of o → s ≡ Allow → o ≡ Some false
+setting_allow s None e q = let z : Neither ≡ Allow = sym e ∙ q in cc
+setting_allow s (Some true) e q = let z : Deny ≡ Allow = sym e ∙ q in cc
+setting_allow s (Some false) e q = refl
 
-setting_neither : (s : Setting) (o : Option Bool) → s ≡ setting_of o → s ≡ Neither → o ≡ none
-setting_neither s none e q = refl
-setting_neither s (some true) e q = let z : Deny ≡ Neither = sym e ∙ q in cc
-setting_neither s (some false) e q = let z : Allow ≡ Neither = sym e ∙ q in cc
+setting_neither : (s : Setting) (o : Option Bool) → s ≡ setting_of o → s ≡ Neither → o ≡ None
+setting_neither s None e q = refl
+setting_neither s (Some true) e q = let z : Deny ≡ Neither = sym e ∙ q in cc
+setting_neither s (Some false) e q = let z : Allow ≡ Neither = sym e ∙ q in cc
 
 module _ (l : List ℕ) (w : Process) (n : ℕ) (text : List ℕ) (may : Bool) (capable : may ≡ capable_in (tables_of l) w n cap_sys_admin) where
   pub write_denied : may ≡ false → Promise (Refused EPERM) l l (write_setgroups_to (tables_of l) w n text)
@@ -136,17 +134,17 @@ module _ (l : List ℕ) (w : Process) (n : ℕ) (text : List ℕ) (may : Bool) (
           answers Done l l' _ refl (rw (put, ← capable, able, setting_allow a (setting_in text) asked allows, ← target, e))
 
 -- ---- write_setgroups
-module _ (l : List ℕ) (c name : ℕ) (text : List ℕ) (f : Found) (caller : f ≡ caller_named (tables_of l) c) where
-  pub write_no_writer : f ≡ Nothing → Promise (Refused ESRCH) l l (write_setgroups_of (tables_of l) c name text)
+module _ (l : List ℕ) (c name : ℕ) (text : List ℕ) (f : Option ℕ) (caller : f ≡ caller_named (tables_of l) c) where
+  pub write_no_writer : f ≡ None → Promise (Refused ESRCH) l l (write_setgroups_of (tables_of l) c name text)
   unfolding write_setgroups_of
   write_no_writer e = refuses ESRCH l _ (rw (← caller, e))
 
-  module _ (i : ℕ) (writer : f ≡ At i) (g : Found) (named : g ≡ process_named (tables_of l) i name) where
-    pub write_no_process : g ≡ Nothing → Promise (Refused ESRCH) l l (write_setgroups_of (tables_of l) c name text)
+  module _ (i : ℕ) (writer : f ≡ Some i) (g : Option ℕ) (named : g ≡ process_named (tables_of l) i name) where
+    pub write_no_process : g ≡ None → Promise (Refused ESRCH) l l (write_setgroups_of (tables_of l) c name text)
     unfolding write_setgroups_of
     write_no_process e = refuses ESRCH l _ (rw (← caller, writer, ← named, e))
 
-    pub write_there : (j : ℕ) (w p : Process) (r : Answer) (l' : List ℕ) → g ≡ At j → w ≡ process_at (tables_of l) i → p ≡ process_at (tables_of l) j
+    pub write_there : (j : ℕ) (w p : Process) (r : Answer) (l' : List ℕ) → g ≡ Some j → w ≡ process_at (tables_of l) i → p ≡ process_at (tables_of l) j
         → Promise r l l' (write_setgroups_to (tables_of l) w p.namespace text) → Promise r l l' (write_setgroups_of (tables_of l) c name text)
     unfolding write_setgroups_of
     write_there j w p r l' place e q h = rw (← caller, writer, ← named, place, ← e, ← q) h

@@ -1,9 +1,9 @@
 -- The write of a map, in the words of the code: a law for each test, each refusal and the success. Assumes nothing.
+use Rattle.std.specs.Prelude.{Option, Some, None}
 use Prim.Native.Nat.{ℕ, zero, suc, ◌+◌, ◌-◌, ◌≤◌, ◌<◌}
 use mathlib.Core.Path.{◌≡◌, refl, sym, ap, ◌∙◌}
 use mathlib.Core.Bool.{Bool, true, false, ◌&&◌}
 use mathlib.Core.List.{List, [], ◌∷◌, ◌++◌, map}
-use mathlib.Core.Option.{Option, none, some}
 use native.Mathlib.Omega.{arith}
 use lib.Dec.{eqb}
 use lib.ListN.{length, take, drop, get_or, set, replicate, length-take, length-map, get_or-map}
@@ -14,8 +14,6 @@ use Rattle.prelude.proofs.Tests.{not_taken, not_left}
 use Rattle.prelude.proofs.Made.{length_mapped}
 use Rattle.prelude.proofs.Lists.{left_step, left_none, MadeTo, made_starts, made_step, made_ends}
 use Rattle.idmap.specs.declared.Line.{Line}
-use Rattle.idmap.specs.declared.Translated.{Translated}
-use Rattle.idmap.specs.declared.Translated.TheVariants.{Id, Unmapped}
 use Rattle.idmap.specs.declared.text.MapText.{MapText}
 use Rattle.idmap.specs.declared.text.Parsed.TheVariants.{Lines, Bad}
 use Rattle.idmap.specs.Line.{no_line, lines_in}
@@ -33,8 +31,6 @@ use Rattle.records.specs.Records.{ids_in, map_in, set_id_of, is_written, LinesOf
 use Rattle.tables.specs.declared.answer.Errno.TheVariants.{EPERM, ESRCH, EINVAL}
 use Rattle.tables.specs.declared.answer.Answer.{Answer}
 use Rattle.tables.specs.declared.answer.Answer.TheVariants.{Refused, Done}
-use Rattle.tables.specs.declared.find.Found.{Found}
-use Rattle.tables.specs.declared.find.Found.TheVariants.{At, Nothing}
 use Rattle.tables.specs.Tables.{State, tables_of, process_at, namespace_at, starts_at, put_map}
 use Rattle.tables.specs.Find.{caller_named, process_named}
 use Rattle.tables.specs.Reply.{Outcome, Promise}
@@ -54,10 +50,10 @@ module _ (w : Process) (n : ℕ) (m : Namespace) where
   near_parent e = rw (ne_eqb w.namespace n e)
 
 -- ---- is_id
-pub id_is : (r : Translated) (x y : ℕ) → r ≡ Id x → eqb x y ≡ is_id r y
+pub id_is : (r : Option ℕ) (x y : ℕ) → r ≡ Some x → eqb x y ≡ is_id r y
 id_is r x y e = rw e
 
-pub id_none : (r : Translated) (y : ℕ) → r ≡ Unmapped → false ≡ is_id r y
+pub id_none : (r : Option ℕ) (y : ℕ) → r ≡ None → false ≡ is_id r y
 id_none r y e = rw e
 
 -- ---- single_line
@@ -85,7 +81,7 @@ module _ (s : State) (kind : Kind) (w : Process) (m : Namespace) (ls : List Line
     unfolding single_line by_kernel_starts
     single_many e = sym (only ∙ rw (ne_eqb (get_or ls 0 no_line).count 1 e))
 
-    module _ (e : (get_or ls 0 no_line).count ≡ 1) (ids : Ids) (own : ids ≡ ids_in kind w) (r : Translated) (f : r ≡ to_kernel s kind m.parent (get_or ls 0 no_line).parent) (t : Bool) (q : t ≡ is_id r ids.effective) where
+    module _ (e : (get_or ls 0 no_line).count ≡ 1) (ids : Ids) (own : ids ≡ ids_in kind w) (r : Option ℕ) (f : r ≡ to_kernel s kind m.parent (get_or ls 0 no_line).parent) (t : Bool) (q : t ≡ is_id r ids.effective) where
       pub single_foreign : t ≡ false → false ≡ single_line (by_kernel_starts s) kind w m (take count ls)
       unfolding single_line by_kernel_starts
       single_foreign y = sym (only ∙ rw (eq-eqb (get_or ls 0 no_line).count 1 e, ← f, ← own, ← q, y))
@@ -133,7 +129,7 @@ module _ (above ls : List Line) (n i : ℕ) (inv : all_whole (whole_by_reach abo
     whole_no y = sym (rw y at whole_at)
 
 -- ---- kernel_starts
-module _ (out : ℕ → Translated) (ls : List Line) (n : ℕ) where
+module _ (out : ℕ → Option ℕ) (ls : List Line) (n : ℕ) where
   abbrev start : Line → ℕ
   start l = or_no_id (out l.parent)
 
@@ -146,7 +142,7 @@ module _ (out : ℕ → Translated) (ls : List Line) (n : ℕ) where
   starts_none = made_starts max_lines 0 (map start (take n ls))
 
   module _ (r : List ℕ) (i : ℕ) (inv : StartsTo r i) (long : length r ≡ max_lines) (all : length ls ≡ max_lines) where
-    pub starts_step : (t : Translated) (v : ℕ) → i < max_lines → i < n → t ≡ out (get_or ls i no_line).parent → v ≡ or_no_id t → StartsTo (set r i v) (i + 1)
+    pub starts_step : (t : Option ℕ) (v : ℕ) → i < max_lines → i < n → t ≡ out (get_or ls i no_line).parent → v ≡ or_no_id t → StartsTo (set r i v) (i + 1)
     unfolding StartsTo
     starts_step t v h k e q =
         let room : i < length (take n ls) = simp length-take (omega arith) in
@@ -168,22 +164,22 @@ module _ (out : ℕ → Translated) (ls : List Line) (n : ℕ) where
     starts_end h k p = starts_all (simp length-take (omega arith)) k
 
 -- ---- what the reader of a map's text answers
-bad_none : (o : Option (List Line)) → (map_text o).parsed ≡ Bad → o ≡ none
+bad_none : (o : Option (List Line)) → (map_text o).parsed ≡ Bad → o ≡ None
 unfolding map_text
-bad_none none e = refl
-bad_none (some ls) e = let z : ◌≡◌ {A = ℕ} 0 1 = cc in absurd (omega arith)
+bad_none None e = refl
+bad_none (Some ls) e = let z : ◌≡◌ {A = ℕ} 0 1 = cc in absurd (omega arith)
 
 front : (ls : List Line) (k : ℕ) → length ls ≡ k → take k (padded ls) ≡ ls
 unfolding padded
 front ls k e = rw (← e) (take-append_seam ls (replicate (max_lines - length ls) no_line))
 
-lines_some : (o : Option (List Line)) (k : ℕ) → (map_text o).parsed ≡ Lines k → (o ≡ some (take k (map_text o).lines)) × (length (take k (map_text o).lines) ≡ k) × ((map_text o).lines ≡ padded (take k (map_text o).lines))
+lines_some : (o : Option (List Line)) (k : ℕ) → (map_text o).parsed ≡ Lines k → (o ≡ Some (take k (map_text o).lines)) × (length (take k (map_text o).lines) ≡ k) × ((map_text o).lines ≡ padded (take k (map_text o).lines))
 unfolding map_text
-lines_some none k e = let z : ◌≡◌ {A = ℕ} 0 1 = cc in absurd (omega arith)
-lines_some (some ls) k e =
+lines_some None k e = let z : ◌≡◌ {A = ℕ} 0 1 = cc in absurd (omega arith)
+lines_some (Some ls) k e =
     let h : length ls ≡ k = cc in
     let f = front ls k h in
-    (ap some (sym f), ap length f ∙ h, ap padded (sym f))
+    (ap Some (sym f), ap length f ∙ h, ap padded (sym f))
 
 -- ---- write_lines
 module _ (l text : List ℕ) (kind : Kind) (w : Process) (n : ℕ) (m : Namespace) (tgt : m ≡ namespace_at (tables_of l) n) (r : MapText) (f : r ≡ map_text (map_lines text)) where
@@ -201,7 +197,7 @@ module _ (l text : List ℕ) (kind : Kind) (w : Process) (n : ℕ) (m : Namespac
       refuses EINVAL l (write_lines_to by (tables_of l) kind w n text) (sym (rw z))
 
   module _ (k : ℕ) (v : r.parsed ≡ Lines k) where
-    read_lines : map_lines text ≡ some (take k r.lines)
+    read_lines : map_lines text ≡ Some (take k r.lines)
     read_lines = rw f (lines_some (map_lines text) k (rw f at v)).0
 
     read_map_lem : ◌≡◌ {A = IdMap} (record { state = Written k; lines = r.lines }) (written_map (take k r.lines))
@@ -271,17 +267,17 @@ module _ (by : Translation) (l text : List ℕ) (kind : Kind) (w : Process) (n :
             to_lines r l' d p = promised r l l' (write_lines_to by (tables_of l) kind w n text) (write_map_to by (tables_of l) kind w n text) (sym (rw (ne_eqb n 0 z, ← tgt, ← q, y, ne_eqb (length text) 0 e, le-ltb max_text_bytes (length text) h, ← own, ← g, x, ← num, ← c, d))) p
 
 -- ---- write_map
-module _ (by : Translation) (l text : List ℕ) (kind : Kind) (c name : ℕ) (r : Found) (f : r ≡ caller_named (tables_of l) c) where
-  pub write_no_caller : r ≡ Nothing → Promise (Refused ESRCH) l l (write_map_of by (tables_of l) kind c name text)
+module _ (by : Translation) (l text : List ℕ) (kind : Kind) (c name : ℕ) (r : Option ℕ) (f : r ≡ caller_named (tables_of l) c) where
+  pub write_no_caller : r ≡ None → Promise (Refused ESRCH) l l (write_map_of by (tables_of l) kind c name text)
   unfolding write_map_of
   write_no_caller n = refuses ESRCH l (write_map_of by (tables_of l) kind c name text) (sym (rw (sym f ∙ n)))
 
-  module _ (i : ℕ) (v : r ≡ At i) (q : Found) (g : q ≡ process_named (tables_of l) i name) where
-    pub write_no_target : q ≡ Nothing → Promise (Refused ESRCH) l l (write_map_of by (tables_of l) kind c name text)
+  module _ (i : ℕ) (v : r ≡ Some i) (q : Option ℕ) (g : q ≡ process_named (tables_of l) i name) where
+    pub write_no_target : q ≡ None → Promise (Refused ESRCH) l l (write_map_of by (tables_of l) kind c name text)
     unfolding write_map_of
     write_no_target n = refuses ESRCH l (write_map_of by (tables_of l) kind c name text) (sym (rw (sym f ∙ v, sym g ∙ n)))
 
-    pub write_found : (j : ℕ) (w p : Process) (a : Answer) (l' : List ℕ) → q ≡ At j → w ≡ process_at (tables_of l) i → p ≡ process_at (tables_of l) j → Promise a l l' (write_map_to by (tables_of l) kind w p.namespace text) → Promise a l l' (write_map_of by (tables_of l) kind c name text)
+    pub write_found : (j : ℕ) (w p : Process) (a : Answer) (l' : List ℕ) → q ≡ Some j → w ≡ process_at (tables_of l) i → p ≡ process_at (tables_of l) j → Promise a l l' (write_map_to by (tables_of l) kind w p.namespace text) → Promise a l l' (write_map_of by (tables_of l) kind c name text)
     unfolding write_map_of
     write_found j w p a l' u d e b = promised a l l' (write_map_to by (tables_of l) kind w p.namespace text) (write_map_of by (tables_of l) kind c name text) (sym (rw (sym f ∙ v, sym g ∙ u, ← d, ← e))) b
 

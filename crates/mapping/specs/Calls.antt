@@ -1,12 +1,9 @@
 -- The map files and the setgroups file, written and read: document 01, 'The calls, and the order in which each
 -- refuses'. Assumes nothing.
-use Rattle.std.specs.Prelude.{ℕ, min, Bool, true, false, cond, ◌&&◌, ◌||◌, List, [], ◌∷◌, ◌++◌, map, eqb, ltb, length}
-use Rattle.std.proofs.Math.Option.{Option, none, some}
+use Rattle.std.specs.Prelude.{ℕ, min, Bool, true, false, cond, ◌&&◌, ◌||◌, List, [], ◌∷◌, ◌++◌, map, eqb, ltb, length, Option, Some, None}
 use Rattle.prelude.specs.Parts.{fits_at, put_at}
 use Rattle.capability.specs.Sets.{cap_sys_admin}
 use Rattle.idmap.specs.declared.Line.{Line}
-use Rattle.idmap.specs.declared.Translated.{Translated}
-use Rattle.idmap.specs.declared.Translated.TheVariants.{Id, Unmapped}
 use Rattle.idmap.specs.Good.{max_lines, no_id}
 use Rattle.idmap.specs.Lookup.{or_no_id}
 use Rattle.idmap.specs.Text.{max_text_bytes, map_lines, padded}
@@ -34,9 +31,9 @@ is_near w n target = eqb w.namespace n || eqb w.namespace target.parent
 
 -- the lines are one line of count 1 whose parent start is, as a kernel ID, the writer's own effective ID of the kind,
 -- the writer's effective user ID is the owner, and for a group map setgroups is denied
-abbrev pub is_id : Translated → ℕ → Bool
-is_id (Id x) y = eqb x y
-is_id Unmapped y = false
+abbrev pub is_id : Option ℕ → ℕ → Bool
+is_id (Some x) y = eqb x y
+is_id None y = false
 
 abbrev pub may_by_kind : Kind → Bool → Bool
 may_by_kind User deny = true
@@ -64,8 +61,8 @@ abbrev pub written_map : List Line → IdMap
 written_map ls = record { state = Written (length ls); lines = padded ls }
 
 abbrev pub then_lines : {A : Type 0} → Option (List Line) → A → (List Line → A) → A
-then_lines none other next = other
-then_lines (some ls) other next = next ls
+then_lines None other next = other
+then_lines (Some ls) other next = next ls
 
 -- what a write stores: the map, and what the code keeps beside it
 unfoldable pub mapped_tables : Translation → State → Kind → ℕ → List Line → State
@@ -114,18 +111,18 @@ is_word text word = same_bytes text word || same_bytes text (word ++ (10 ∷ [])
 
 -- what a text sets: deny, allow, or nothing where it is neither
 unfoldable pub setting_in : List ℕ → Option Bool
-setting_in text = cond (is_word text deny_text) (some true) (cond (is_word text allow_text) (some false) none)
+setting_in text = cond (is_word text deny_text) (Some true) (cond (is_word text allow_text) (Some false) None)
 
 -- the same as the code's answer
 abbrev pub setting_of : Option Bool → Setting
-setting_of none = Neither
-setting_of (some true) = Deny
-setting_of (some false) = Allow
+setting_of None = Neither
+setting_of (Some true) = Deny
+setting_of (Some false) = Allow
 
 abbrev pub then_setting : {A : Type 0} → Option Bool → A → A → A → A
-then_setting none other deny allow = other
-then_setting (some true) other deny allow = deny
-then_setting (some false) other deny allow = allow
+then_setting None other deny allow = other
+then_setting (Some true) other deny allow = deny
+then_setting (Some false) other deny allow = allow
 
 unfoldable pub write_setgroups_to : State → Process → ℕ → List ℕ → Outcome
 write_setgroups_to s w n text =
@@ -154,9 +151,9 @@ unfoldable pub view_of : State → Process → ℕ → ℕ
 view_of s r n = cond (eqb r.namespace n) (namespace_at s n).parent r.namespace
 
 -- the start of a line's parent side as namespace v sees it; 4294967295 if it has none
-abbrev pub seen_start : Translation → Kind → ℕ → Translated → ℕ
-seen_start by kind v (Id x) = or_no_id (by.back kind v x)
-seen_start by kind v Unmapped = no_id
+abbrev pub seen_start : Translation → Kind → ℕ → Option ℕ → ℕ
+seen_start by kind v (Some x) = or_no_id (by.back kind v x)
+seen_start by kind v None = no_id
 
 unfoldable pub shown_line : Translation → State → Kind → ℕ → ℕ → Line → Line
 shown_line by s kind n v l = record {

@@ -1,8 +1,8 @@
 -- The laws of lists that are made element by element. Assumes nothing.
+use Rattle.std.specs.Prelude.{Option, Some, None}
 use Prim.Native.Nat.{ℕ, zero, suc, ◌+◌, ◌≤◌}
 use mathlib.Core.Path.{◌≡◌, refl, sym, ap, ap₂, ◌∙◌}
 use mathlib.Core.List.{List, ◌∷◌, map}
-use mathlib.Core.Option.{Option, none, some}
 use native.Mathlib.Omega.{arith}
 use lib.ListN.{length, get_or, take, drop, length-map}
 use lib.Seq.{drop-cons, take_all}
@@ -43,23 +43,23 @@ pub length_mapped : {X Y : Type 0} (f : X → Y) (l : List X) (n : ℕ) → leng
 length_mapped f l n e = sym (length-map l f) ∙ e
 
 -- ---- what f gives for each element
-pub some_none : {A : Type 0} {x : A} → some x ≡ none → ⊥
+pub some_none : {A : Type 0} {x : A} → Some x ≡ None → ⊥
 some_none e = let z : ◌≡◌ {A = ℕ} 0 1 = cc in omega arith
 
 -- nothing for the first, and nothing for one of the others
-pub cons_first : {A : Type 0} (r : Option (List A)) → cons_of none r ≡ none
+pub cons_first : {A : Type 0} (r : Option (List A)) → cons_of None r ≡ None
 unfolding cons_of
 cons_first r = refl
 
-pub cons_none : {A : Type 0} (a : Option A) → cons_of a none ≡ none
+pub cons_none : {A : Type 0} (a : Option A) → cons_of a None ≡ None
 unfolding cons_of
-cons_none none = refl
-cons_none (some a) = refl
+cons_none None = refl
+cons_none (Some a) = refl
 
 -- something for each
-pub cons_some : {A : Type 0} (o : Option A) (r : Option (List A)) (l : List A) → cons_of o r ≡ some l
-    → (y : A) × (ys : List A) × (o ≡ some y) × (r ≡ some ys) × (l ≡ y ∷ ys)
+pub cons_some : {A : Type 0} (o : Option A) (r : Option (List A)) (l : List A) → cons_of o r ≡ Some l
+    → (y : A) × (ys : List A) × (o ≡ Some y) × (r ≡ Some ys) × (l ≡ y ∷ ys)
 unfolding cons_of
-cons_some none r l e = absurd (some_none (sym e))
-cons_some (some y) none l e = absurd (some_none (sym e))
-cons_some (some y) (some ys) l e = (y, ys, refl, refl, cc)
+cons_some None r l e = absurd (some_none (sym e))
+cons_some (Some y) None l e = absurd (some_none (sym e))
+cons_some (Some y) (Some ys) l e = (y, ys, refl, refl, cc)

@@ -1,5 +1,6 @@
 -- What each way out of a call means, in the words of the code: a law for each refusal and each success. Assumes
 -- nothing.
+use Rattle.std.specs.Prelude.{Option, Some, None}
 use Prim.Native.Nat.{ℕ, ◌+◌, ◌≤◌, ◌<◌}
 use mathlib.Core.Path.{◌≡◌, refl, sym, ◌∙◌}
 use mathlib.Core.Bool.{Bool, true, false}
@@ -8,7 +9,6 @@ use borrow.Author.Rules.{rules}
 use Rattle.prelude.proofs.Tests.{not_taken, not_left}
 use borrow.Author.Tests.{le-leb, lt-leb, eq-eqb, ne_eqb}
 use Rattle.capability.specs.Sets.{cap_sys_admin, full_set}
-use Rattle.idmap.specs.declared.Translated.{Translated}
 use Rattle.records.specs.declared.Kind.TheVariants.{User, Group}
 use Rattle.records.specs.declared.Process.{Process}
 use Rattle.records.specs.declared.Namespace.{Namespace}
@@ -16,8 +16,6 @@ use Rattle.records.specs.Records.{unmapped}
 use Rattle.tables.specs.declared.answer.Errno.{Errno}
 use Rattle.tables.specs.declared.answer.Errno.TheVariants.{EPERM, ESRCH, EAGAIN, EINVAL, ENOSPC, EUSERS}
 use Rattle.tables.specs.declared.answer.Answer.TheVariants.{Refused, Done, Child, ChildIn, NewNamespace}
-use Rattle.tables.specs.declared.find.Found.{Found}
-use Rattle.tables.specs.declared.find.Found.TheVariants.{At, Nothing}
 use Rattle.tables.specs.declared.find.Free.{Free}
 use Rattle.tables.specs.declared.find.Free.TheVariants.{Place, Full}
 use Rattle.tables.specs.Tables.{State, max_level, tables_of, process_at, namespace_at, put_process, put_namespace, clear_starts}
@@ -32,8 +30,8 @@ use Rattle.process.specs.declared.Making.TheVariants.{Barred, By}
 use Rattle.process.specs.Making.{Makes, HasRoom}
 
 -- ---- knows_itself
-module _ (s : State) (p : Process) (u : Translated) (m : Bool) (f : u ≡ from_kernel s User p.namespace p.users.effective) (e : m ≡ is_mapped u) where
-  pub knows_user : (g : Translated) (k : Bool) → m ≡ true → g ≡ from_kernel s Group p.namespace p.groups.effective → k ≡ is_mapped g → k ≡ knows_itself (by_kernel_starts s) p
+module _ (s : State) (p : Process) (u : Option ℕ) (m : Bool) (f : u ≡ from_kernel s User p.namespace p.users.effective) (e : m ≡ is_mapped u) where
+  pub knows_user : (g : Option ℕ) (k : Bool) → m ≡ true → g ≡ from_kernel s Group p.namespace p.groups.effective → k ≡ is_mapped g → k ≡ knows_itself (by_kernel_starts s) p
   unfolding knows_itself by_kernel_starts
   knows_user g k t h q = q ∙ rw (← f, ← e, t, ← h)
 
@@ -53,12 +51,12 @@ unfolding below
 made_is s₀ s₁ n p own e = e
 
 -- ---- fork
-module _ (l : List ℕ) (c : ℕ) (r : Found) (f : r ≡ caller_named (tables_of l) c) where
-  pub fork_no_caller : r ≡ Nothing → Promise (Refused ESRCH) l l (fork_of (tables_of l) c)
+module _ (l : List ℕ) (c : ℕ) (r : Option ℕ) (f : r ≡ caller_named (tables_of l) c) where
+  pub fork_no_caller : r ≡ None → Promise (Refused ESRCH) l l (fork_of (tables_of l) c)
   unfolding fork_of
   fork_no_caller n = refuses ESRCH l (fork_of (tables_of l) c) (sym (rw (sym f ∙ n)))
 
-  module _ (i : ℕ) (v : r ≡ At i) (q : Free) (g : q ≡ free_as process_number (free_process_place (tables_of l))) where
+  module _ (i : ℕ) (v : r ≡ Some i) (q : Free) (g : q ≡ free_as process_number (free_process_place (tables_of l))) where
     pub fork_full : q ≡ Full → Promise (Refused EAGAIN) l l (fork_of (tables_of l) c)
     unfolding fork_of
     fork_full n = refuses EAGAIN l (fork_of (tables_of l) c) (sym (rw (sym f ∙ v, none_free process_number (free_process_place (tables_of l)) (sym n ∙ g))))
@@ -70,11 +68,11 @@ module _ (l : List ℕ) (c : ℕ) (r : Found) (f : r ≡ caller_named (tables_of
         answers (Child n) l l' (fork_of (tables_of l) c) refl (rw (sym f ∙ v, free.0, free.1, k, e))
 
 -- ---- clone and unshare alike, by any translation
-module _ (by : Translation) (s : State) (c : ℕ) (r : Found) (f : r ≡ caller_named s c) where
-  pub maker_no_caller : r ≡ Nothing → Makes by s c (Barred ESRCH)
+module _ (by : Translation) (s : State) (c : ℕ) (r : Option ℕ) (f : r ≡ caller_named s c) where
+  pub maker_no_caller : r ≡ None → Makes by s c (Barred ESRCH)
   maker_no_caller n = λ next. rw (sym f ∙ n)
 
-  module _ (i : ℕ) (v : r ≡ At i) (p : Process) (e : p ≡ process_at s i) (own : Namespace) (o : own ≡ namespace_at s p.namespace) where
+  module _ (i : ℕ) (v : r ≡ Some i) (p : Process) (e : p ≡ process_at s i) (own : Namespace) (o : own ≡ namespace_at s p.namespace) where
     pub maker_deep : max_level ≤ own.level → Makes by s c (Barred EUSERS)
     maker_deep h = λ next. rw (sym f ∙ v, ← e, ← o, le-leb max_level own.level h)
 
@@ -125,17 +123,17 @@ module _ (by : Translation) (l : List ℕ) (c : ℕ) (r : Making) (f : Makes by 
         unshare_done k = answers (NewNamespace d) l l₂ (unshare_of by (tables_of l) c) refl (sym (f _ ∙ rw (v, (rw v at m).1, k, y, z, o, e)))
 
 -- ---- setns
-module _ (l : List ℕ) (c name : ℕ) (r : Found) (f : r ≡ caller_named (tables_of l) c) where
-  pub setns_no_caller : r ≡ Nothing → Promise (Refused ESRCH) l l (setns_of (tables_of l) c name)
+module _ (l : List ℕ) (c name : ℕ) (r : Option ℕ) (f : r ≡ caller_named (tables_of l) c) where
+  pub setns_no_caller : r ≡ None → Promise (Refused ESRCH) l l (setns_of (tables_of l) c name)
   unfolding setns_of
   setns_no_caller n = refuses ESRCH l (setns_of (tables_of l) c name) (sym (rw (sym f ∙ n)))
 
-  module _ (i : ℕ) (v : r ≡ At i) (q : Found) (g : q ≡ namespace_named (tables_of l) i name) where
-    pub setns_no_target : q ≡ Nothing → Promise (Refused ESRCH) l l (setns_of (tables_of l) c name)
+  module _ (i : ℕ) (v : r ≡ Some i) (q : Option ℕ) (g : q ≡ namespace_named (tables_of l) i name) where
+    pub setns_no_target : q ≡ None → Promise (Refused ESRCH) l l (setns_of (tables_of l) c name)
     unfolding setns_of
     setns_no_target n = refuses ESRCH l (setns_of (tables_of l) c name) (sym (rw (sym f ∙ v, sym g ∙ n)))
 
-    module _ (n : ℕ) (w : q ≡ At n) (p : Process) (e : p ≡ process_at (tables_of l) i) where
+    module _ (n : ℕ) (w : q ≡ Some n) (p : Process) (e : p ≡ process_at (tables_of l) i) where
       pub setns_member : p.namespace ≡ n → Promise (Refused EINVAL) l l (setns_of (tables_of l) c name)
       unfolding setns_of
       setns_member h = refuses EINVAL l (setns_of (tables_of l) c name) (sym (rw (sym f ∙ v, sym g ∙ w, ← e, eq-eqb p.namespace n h)))

@@ -1,8 +1,6 @@
 -- Fork, clone, unshare and setns: document 01, 'The calls, and the order in which each refuses'. Assumes nothing.
-use Rattle.std.specs.Prelude.{ℕ, ◌+◌, Bool, true, false, ◌&&◌, leb, eqb}
+use Rattle.std.specs.Prelude.{ℕ, ◌+◌, Bool, true, false, ◌&&◌, leb, eqb, Option, Some, None}
 use Rattle.capability.specs.Sets.{cap_sys_admin, full_set}
-use Rattle.idmap.specs.declared.Translated.{Translated}
-use Rattle.idmap.specs.declared.Translated.TheVariants.{Id, Unmapped}
 use Rattle.records.specs.declared.Kind.TheVariants.{User, Group}
 use Rattle.records.specs.declared.Process.{Process}
 use Rattle.records.specs.declared.Namespace.{Namespace}
@@ -20,9 +18,9 @@ fork_of s c =
     record { reply = child (process_number q); tables = put_process s q (process_at s p) }))
 
 -- ---- a new namespace
-abbrev pub is_mapped : Translated → Bool
-is_mapped (Id x) = true
-is_mapped Unmapped = false
+abbrev pub is_mapped : Option ℕ → Bool
+is_mapped (Some x) = true
+is_mapped None = false
 
 -- the effective user and group ID of process p have a translation into its own namespace
 unfoldable pub knows_itself : Translation → Process → Bool

@@ -1,4 +1,5 @@
 -- A buffer of the longest text serves for any longer one. Assumes nothing.
+use Rattle.std.specs.Prelude.{Option, Some, None}
 use Prim.Native.Nat.{ℕ, ◌+◌, ◌*◌, ◌≤◌, min}
 use mathlib.Core.Path.{◌≡◌, refl, sym, ap, ◌∙◌}
 use mathlib.Core.Bool.{Bool, true, false}
@@ -17,8 +18,6 @@ use Rattle.records.specs.declared.Kind.{Kind}
 use Rattle.records.specs.Records.{map_in, lines_of}
 use Rattle.tables.specs.Tables.{State, process_at, namespace_at}
 use Rattle.tables.specs.Find.{caller_named, process_named}
-use Rattle.tables.specs.declared.find.Found.{Found}
-use Rattle.tables.specs.declared.find.Found.TheVariants.{At, Nothing}
 use Rattle.tables.specs.Reply.{refused, bytes, on_found}
 use Rattle.hierarchy.specs.KernelStarts.{by_kernel_starts, quick}
 use Rattle.mapping.specs.Calls.{ReadOutcome, read_text, view_of, shown_line, map_text_of, read_map_of, setting_text, read_setgroups_of}
@@ -89,7 +88,7 @@ text_there text b rest n e =
     (λ t. absurd (refused_bytes 34 n (rw t at e)))
 
 -- ---- a read finds its caller, what this names, and the text
-abbrev reading_of : Found → (ℕ → Found) → (ℕ → ℕ → List ℕ) → List ℕ → ReadOutcome
+abbrev reading_of : Option ℕ → (ℕ → Option ℕ) → (ℕ → ℕ → List ℕ) → List ℕ → ReadOutcome
 reading_of x y text b =
     on_found x (record { reply = refused 3; buffer = b }) (λ r. on_found (y r) (record { reply = refused 3; buffer = b }) (λ p. read_text (text r p) b))
 
@@ -111,15 +110,15 @@ module _ (b b' rest : List ℕ) (m : ℕ) (one : length b ≡ min m max_read) (o
             text_there text b rest n e ∙ sym (ap (take n) (sym (append-nil (read_text text b').buffer)) ∙ text_there text b' [] n (sym same ∙ e)),
       )
 
-  named_alike : (x : Found) (text : ℕ → List ℕ) → ((p : ℕ) → length (text p) ≤ max_read)
+  named_alike : (x : Option ℕ) (text : ℕ → List ℕ) → ((p : ℕ) → length (text p) ≤ max_read)
       → Alike (on_found x (record { reply = refused 3; buffer = b }) (λ p. read_text (text p) b)) (on_found x (record { reply = refused 3; buffer = b' }) (λ p. read_text (text p) b')) rest
-  named_alike (At p) text short = text_alike (text p) (short p)
-  named_alike Nothing text short = refused_alike
+  named_alike (Some p) text short = text_alike (text p) (short p)
+  named_alike None text short = refused_alike
 
-  reading_alike : (x : Found) (y : ℕ → Found) (text : ℕ → ℕ → List ℕ) → ((r p : ℕ) → length (text r p) ≤ max_read)
+  reading_alike : (x : Option ℕ) (y : ℕ → Option ℕ) (text : ℕ → ℕ → List ℕ) → ((r p : ℕ) → length (text r p) ≤ max_read)
       → Alike (reading_of x y text b) (reading_of x y text b') rest
-  reading_alike (At r) y text short = named_alike (y r) (text r) (short r)
-  reading_alike Nothing y text short = refused_alike
+  reading_alike (Some r) y text short = named_alike (y r) (text r) (short r)
+  reading_alike None y text short = refused_alike
 
 -- ---- the call of a record
 module _ (s : State) (l : List ℕ) (few : FewLines s) (buffer : List ℕ) (full : length buffer ≡ max_read) where

@@ -1,4 +1,5 @@
 -- Finding a place, turn by turn, in the words of the code. Assumes nothing.
+use Rattle.std.specs.Prelude.{Option, Some, None}
 use Prim.Native.Nat.{ℕ, ◌+◌, ◌-◌, ◌≤◌, ◌<◌}
 use mathlib.Core.Path.{◌≡◌, refl, sym, ap, ◌∙◌}
 use mathlib.Core.Bool.{Bool, true, false}
@@ -13,8 +14,6 @@ use borrow.Author.Rules.{rules}
 use borrow.Author.Tests.{eq-eqb, ne_eqb}
 use Rattle.records.specs.declared.Process.{Process}
 use Rattle.records.specs.declared.Namespace.{Namespace}
-use Rattle.tables.specs.declared.find.Found.{Found}
-use Rattle.tables.specs.declared.find.Found.TheVariants.{At, Nothing}
 use Rattle.tables.specs.declared.find.Free.TheVariants.{Place, Full}
 use Rattle.records.specs.Records.{free_process, free_namespace}
 use Rattle.tables.specs.Tables.{State, process_places, namespace_places, tables_of, process_at, namespace_at}
@@ -22,29 +21,29 @@ use Rattle.tables.specs.Find.{process_number, namespace_number, caller_named, pr
 use Rattle.tables.proofs.Tables.{length_processes, length_namespaces}
 
 -- ---- by name
-pub caller_zero : (s : State) (c : ℕ) → c ≡ 0 → Nothing ≡ caller_named s c
+pub caller_zero : (s : State) (c : ℕ) → c ≡ 0 → None ≡ caller_named s c
 unfolding caller_named
 caller_zero s c e = rw (eq-eqb c 0 e)
 
 module _ (s : State) (c : ℕ) (z : c ≡ 0 → ⊥) (p : Process) (read : p ≡ process_at s (c - 1)) where
-  pub caller_live : p.live ≡ true → At (c - 1) ≡ caller_named s c
+  pub caller_live : p.live ≡ true → Some (c - 1) ≡ caller_named s c
   unfolding caller_named
   caller_live t = rw (ne_eqb c 0 z, ← read, t)
 
-  pub caller_dead : p.live ≡ false → Nothing ≡ caller_named s c
+  pub caller_dead : p.live ≡ false → None ≡ caller_named s c
   unfolding caller_named
   caller_dead t = rw (ne_eqb c 0 z, ← read, t)
 
-pub process_by_any : (s : State) (p name : ℕ) (r : Found) → r ≡ caller_named s name → r ≡ process_named s p name
+pub process_by_any : (s : State) (p name : ℕ) (r : Option ℕ) → r ≡ caller_named s name → r ≡ process_named s p name
 unfolding process_named
 process_by_any s p name r e = e
 
 module _ (s : State) (p name : ℕ) (n : Namespace) (read : n ≡ namespace_at s name) where
-  pub space_live : n.live ≡ true → At name ≡ namespace_named s p name
+  pub space_live : n.live ≡ true → Some name ≡ namespace_named s p name
   unfolding namespace_named
   space_live t = rw (← read, t)
 
-  pub space_dead : n.live ≡ false → Nothing ≡ namespace_named s p name
+  pub space_dead : n.live ≡ false → None ≡ namespace_named s p name
   unfolding namespace_named
   space_dead t = rw (← read, t)
 
@@ -57,7 +56,7 @@ number_is i = add-one i
 
 -- ---- the lowest unused place, of any table
 module _ {A : Type 0} (live : A → Bool) (l : List A) (i : ℕ) (d : A) where
-  free_here : i < length l → live (get_or l i d) ≡ false → free_from live i (drop i l) ≡ At i
+  free_here : i < length l → live (get_or l i d) ≡ false → free_from live i (drop i l) ≡ Some i
   unfolding free_from
   free_here h t = rw (drop-cons l i d h, t)
 
@@ -65,15 +64,15 @@ module _ {A : Type 0} (live : A → Bool) (l : List A) (i : ℕ) (d : A) where
   unfolding free_from
   free_on h t = rw (drop-cons l i d h, t, add-one)
 
-  free_none : length l ≤ i → free_from live i (drop i l) ≡ Nothing
+  free_none : length l ≤ i → free_from live i (drop i l) ≡ None
   unfolding free_from
   free_none h = rw (drop_of_length-le l {i = i} h)
 
 -- what is left of the search from place i on
-pub processes_from : State → ℕ → Found
+pub processes_from : State → ℕ → Option ℕ
 processes_from s i = free_from (λ (p : Process). p.live) i (drop i s.processes)
 
-pub namespaces_from : State → ℕ → Found
+pub namespaces_from : State → ℕ → Option ℕ
 namespaces_from s i = free_from (λ (n : Namespace). n.live) i (drop i s.namespaces)
 
 module _ (l : List ℕ) where

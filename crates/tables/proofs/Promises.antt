@@ -1,4 +1,5 @@
 -- Promises: of a call that refuses, and of one that does not. Assumes nothing.
+use Rattle.std.specs.Prelude.{Option, Some, None}
 use Prim.Native.Nat.{ℕ, ◌+◌, ◌<◌}
 use mathlib.Core.Path.{◌≡◌, refl, sym, ◌∙◌}
 use mathlib.Core.Bool.{Bool, false, false≢true}
@@ -11,8 +12,6 @@ use Rattle.records.specs.declared.Namespace.{Namespace}
 use Rattle.tables.specs.declared.answer.Errno.{Errno}
 use Rattle.tables.specs.declared.answer.Answer.{Answer}
 use Rattle.tables.specs.declared.answer.Answer.TheVariants.{Refused}
-use Rattle.tables.specs.declared.find.Found.{Found}
-use Rattle.tables.specs.declared.find.Found.TheVariants.{At, Nothing}
 use Rattle.tables.specs.declared.find.Free.TheVariants.{Place, Full}
 use Rattle.tables.specs.Tables.{process_places, namespace_places, tables_of}
 use Rattle.tables.specs.Find.{free_from, free_process_place, free_namespace_place, free_as}
@@ -28,22 +27,22 @@ pub answers : (r : Answer) (l l' : List ℕ) (o : Outcome) → is_refused (reply
 answers r l l' o n q = record { outcome = q; kept = λ t. absurd (false≢true (sym n ∙ t)) }
 
 -- ---- a place that is found free lies in its table
-free_below : {A : Type 0} (live : A → Bool) (k i : ℕ) (l : List A) → free_from live k l ≡ At i → i < k + length l
+free_below : {A : Type 0} (live : A → Bool) (k i : ℕ) (l : List A) → free_from live k l ≡ Some i → i < k + length l
 unfolding free_from
 free_below live k i [] e = let z : ◌≡◌ {A = ℕ} 0 1 = cc in absurd (omega arith)
 free_below live k i (x ∷ l) e =
     by_test (live x)
     (λ t. let h = free_below live (ℕ.suc k) i l (rw t at e) in omega arith)
-    (λ t. let h : At k ≡ At i = rw t at e in let z : k ≡ i = cc in omega arith)
+    (λ t. let h : Some k ≡ Some i = rw t at e in let z : k ≡ i = cc in omega arith)
 
-pub free_process_below : (l : List ℕ) (i : ℕ) → free_process_place (tables_of l) ≡ At i → i < process_places
+pub free_process_below : (l : List ℕ) (i : ℕ) → free_process_place (tables_of l) ≡ Some i → i < process_places
 unfolding free_process_place
 free_process_below l i e =
     let h = free_below (λ (p : Process). p.live) 0 i (tables_of l).processes e in
     let k = length_processes l in
     omega arith
 
-pub free_namespace_below : (l : List ℕ) (i : ℕ) → free_namespace_place (tables_of l) ≡ At i → i < namespace_places
+pub free_namespace_below : (l : List ℕ) (i : ℕ) → free_namespace_place (tables_of l) ≡ Some i → i < namespace_places
 unfolding free_namespace_place
 free_namespace_below l i e =
     let h = free_below (λ (n : Namespace). n.live) 0 i (tables_of l).namespaces e in
@@ -52,10 +51,10 @@ free_namespace_below l i e =
 
 -- ---- what is free, as the code is told, with its number
 module _ (number : ℕ → ℕ) where
-  pub none_free : (f : Found) → Full ≡ free_as number f → f ≡ Nothing
-  none_free Nothing e = refl
-  none_free (At i) e = let z : ◌≡◌ {A = ℕ} 0 1 = cc in absurd (omega arith)
+  pub none_free : (f : Option ℕ) → Full ≡ free_as number f → f ≡ None
+  none_free None e = refl
+  none_free (Some i) e = let z : ◌≡◌ {A = ℕ} 0 1 = cc in absurd (omega arith)
 
-  pub free_at : (f : Found) (i n : ℕ) → Place i n ≡ free_as number f → (f ≡ At i) × (n ≡ number i)
-  free_at Nothing i n e = let z : ◌≡◌ {A = ℕ} 0 1 = cc in absurd (omega arith)
-  free_at (At j) i n e = let a : i ≡ j = cc in let b : n ≡ number j = cc in (rw a, rw a b)
+  pub free_at : (f : Option ℕ) (i n : ℕ) → Place i n ≡ free_as number f → (f ≡ Some i) × (n ≡ number i)
+  free_at None i n e = let z : ◌≡◌ {A = ℕ} 0 1 = cc in absurd (omega arith)
+  free_at (Some j) i n e = let a : i ≡ j = cc in let b : n ≡ number j = cc in (rw a, rw a b)

@@ -1,9 +1,7 @@
 -- Who is where, and which number a place stands for. Assumes nothing.
-use Rattle.std.specs.Prelude.{ℕ, suc, ◌-◌, Bool, cond, List, [], ◌∷◌, eqb}
+use Rattle.std.specs.Prelude.{ℕ, suc, ◌-◌, Bool, cond, List, [], ◌∷◌, eqb, Option, Some, None}
 use Rattle.records.specs.declared.Process.{Process}
 use Rattle.records.specs.declared.Namespace.{Namespace}
-use Rattle.tables.specs.declared.find.Found.{Found}
-use Rattle.tables.specs.declared.find.Found.TheVariants.{At, Nothing}
 use Rattle.tables.specs.declared.find.Free.{Free}
 use Rattle.tables.specs.declared.find.Free.TheVariants.{Place, Full}
 use Rattle.tables.specs.Tables.{State, process_at, namespace_at}
@@ -16,30 +14,30 @@ abbrev pub namespace_number : ℕ → ℕ
 namespace_number i = i
 
 -- document 01: the caller must exist: the process of that number, if there is one, by its place
-unfoldable pub caller_named : State → ℕ → Found
-caller_named s c = cond (eqb c 0) Nothing (cond (process_at s (c - 1)).live (At (c - 1)) Nothing)
+unfoldable pub caller_named : State → ℕ → Option ℕ
+caller_named s c = cond (eqb c 0) None (cond (process_at s (c - 1)).live (Some (c - 1)) None)
 
 -- document 01: then the process or namespace named, if there is one, by its place. p is the place of the caller that
 -- names it: every caller may name every process and every namespace
-unfoldable pub process_named : State → ℕ → ℕ → Found
+unfoldable pub process_named : State → ℕ → ℕ → Option ℕ
 process_named s p name = caller_named s name
 
-unfoldable pub namespace_named : State → ℕ → ℕ → Found
-namespace_named s p name = cond (namespace_at s name).live (At name) Nothing
+unfoldable pub namespace_named : State → ℕ → ℕ → Option ℕ
+namespace_named s p name = cond (namespace_at s name).live (Some name) None
 
 -- the lowest place, from i on, of which the test is false
-unfoldable pub free_from : {A : Type 0} → (A → Bool) → ℕ → List A → Found
-free_from live i [] = Nothing
-free_from live i (x ∷ xs) = cond (live x) (free_from live (suc i) xs) (At i)
+unfoldable pub free_from : {A : Type 0} → (A → Bool) → ℕ → List A → Option ℕ
+free_from live i [] = None
+free_from live i (x ∷ xs) = cond (live x) (free_from live (suc i) xs) (Some i)
 
 -- document 01: new ones take the lowest unused number
-unfoldable pub free_process_place : State → Found
+unfoldable pub free_process_place : State → Option ℕ
 free_process_place s = free_from (λ (p : Process). p.live) 0 s.processes
 
-unfoldable pub free_namespace_place : State → Found
+unfoldable pub free_namespace_place : State → Option ℕ
 free_namespace_place s = free_from (λ (n : Namespace). n.live) 0 s.namespaces
 
 -- a free place with its number, as the code answers it
-abbrev pub free_as : (ℕ → ℕ) → Found → Free
-free_as number (At i) = Place i (number i)
-free_as number Nothing = Full
+abbrev pub free_as : (ℕ → ℕ) → Option ℕ → Free
+free_as number (Some i) = Place i (number i)
+free_as number None = Full

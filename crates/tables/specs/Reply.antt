@@ -1,11 +1,9 @@
 -- The answers of document 01, by number and value. Assumes nothing.
-use Rattle.std.specs.Prelude.{ℕ, ◌≡◌, Bool, true, false, cond, List}
+use Rattle.std.specs.Prelude.{ℕ, ◌≡◌, Bool, true, false, cond, List, Option, Some, None}
 use Rattle.tables.specs.declared.answer.Errno.{Errno}
 use Rattle.tables.specs.declared.answer.Errno.TheVariants.{EPERM, ESRCH, EAGAIN, EINVAL, ENOSPC, ERANGE, EUSERS}
 use Rattle.tables.specs.declared.answer.Answer.{Answer}
 use Rattle.tables.specs.declared.answer.Answer.TheVariants.{Refused, Done, Child, ChildIn, NewNamespace, Yes, No, Length, Id, Unmapped}
-use Rattle.tables.specs.declared.find.Found.{Found}
-use Rattle.tables.specs.declared.find.Found.TheVariants.{At, Nothing}
 use Rattle.tables.specs.Tables.{State, tables_of}
 
 pub data Reply : Type 0 where
@@ -74,9 +72,9 @@ pub record Promise (r : Answer) (entry exit : List ℕ) (o : Outcome) : Type 0 w
 
 -- ---- how definitions of calls are written: a test, its refusal, and what follows
 -- what is found, or what follows where there is nothing
-abbrev pub on_found : {A : Type 0} → Found → A → (ℕ → A) → A
-on_found (At i) other next = next i
-on_found Nothing other next = other
+abbrev pub on_found : {A : Type 0} → Option ℕ → A → (ℕ → A) → A
+on_found (Some i) other next = next i
+on_found None other next = other
 
 abbrev pub when : {A : Type 0} → Bool → A → A → A
 when t other next = cond t other next
