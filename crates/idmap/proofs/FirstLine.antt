@@ -5,10 +5,6 @@ use lib.ListN.{get_or-append}
 use lib.Seq.{drop-append-le, drop-append-add, drop-length, get_or-append_seam}
 use borrow.Author.Tests.{eqb-false}
 use Rattle.idmap.specs.declared.Line.{Line}
-use Rattle.idmap.specs.declared.text.NumberRead.{NumberRead}
-use Rattle.idmap.specs.declared.text.NumberRead.TheVariants.{Value, NoNumber}
-use Rattle.idmap.specs.declared.text.LineRead.{LineRead}
-use Rattle.idmap.specs.declared.text.LineRead.TheVariants.{Read, NoLine}
 use Rattle.idmap.specs.Good.{no_id}
 use Rattle.idmap.specs.Text.{is_newline, is_blank, is_digit, pieces, numbers_of, three_of, line_of, text_lines}
 use Rattle.idmap.specs.Scan.{span, value, skipped, ended, number_at, field_at, line_end, then_number, scan_line}
@@ -92,9 +88,9 @@ Few x = (x ≡ None) ⊎ (x ≡ Some [])
 abbrev from : List ℕ → ℕ → Option (List ℕ)
 from l e = numbers_of (drop e l)
 
-abbrev Field : List ℕ → Option (List ℕ) → NumberRead → Type 0
-Field l x (Value v e) = (e ≤ length l) × (x ≡ cons_of (Some v) (from l e))
-Field l x NoNumber = Few x
+abbrev Field : List ℕ → Option (List ℕ) → Option (ℕ × ℕ) → Type 0
+Field l x (Some (v, e)) = (e ≤ length l) × (x ≡ cons_of (Some v) (from l e))
+Field l x None = Few x
 
 -- nothing that is a digit stands at the front, and no blank: there are no numbers
 few : (y : List ℕ) → Halts is_blank y → span is_digit y ≡ 0 → Few (numbers_of y)
@@ -105,15 +101,15 @@ few (c ∷ y) b d =
     (λ t. let k : suc (span is_digit y) ≡ 0 = rw t at d in absurd (omega arith))
     (λ t. inl (numbers_other c y b t))
 
-ended_none : (p e v : ℕ) → e ≡ p → ended p e v ≡ NoNumber
+ended_none : (p e v : ℕ) → e ≡ p → ended p e v ≡ None
 unfolding ended
 ended_none p e v h = by_test (leb v no_id) (λ t. rw (t, eq-eqb e p h)) (λ t. rw t)
 
-ended_value : (p e v : ℕ) → leb v no_id ≡ true → eqb e p ≡ false → ended p e v ≡ Value v e
+ended_value : (p e v : ℕ) → leb v no_id ≡ true → eqb e p ≡ false → ended p e v ≡ Some (v, e)
 unfolding ended
 ended_value p e v t u = rw (t, u)
 
-ended_over : (p e v : ℕ) → leb v no_id ≡ false → ended p e v ≡ NoNumber
+ended_over : (p e v : ℕ) → leb v no_id ≡ false → ended p e v ≡ None
 unfolding ended
 ended_over p e v t = rw t
 
@@ -184,14 +180,14 @@ fourth a b c (Some d) None = refl
 fourth a b c (Some d) (Some ds) = refl
 
 -- what was scanned is what the line says, and leaves what follows the line
-abbrev Scanned : List ℕ → List ℕ → Option Line → LineRead → Type 0
-Scanned l z o (Read m u) = (o ≡ Some m) × (drop u (l ++ z) ≡ drop 1 z) × (u ≤ length (l ++ z))
-Scanned l z o NoLine = o ≡ None
+abbrev Scanned : List ℕ → List ℕ → Option Line → Option (Line × ℕ) → Type 0
+Scanned l z o (Some (m, u)) = (o ≡ Some m) × (drop u (l ++ z) ≡ drop 1 z) × (u ≤ length (l ++ z))
+Scanned l z o None = o ≡ None
 
-then_number_lem : (l z : List ℕ) (o : Option Line) (x : Option (List ℕ)) (r : NumberRead) (next : ℕ → ℕ → LineRead) → Field l x r
+then_number_lem : (l z : List ℕ) (o : Option Line) (x : Option (List ℕ)) (r : Option (ℕ × ℕ)) (next : ℕ → ℕ → Option (Line × ℕ)) → Field l x r
     → ((v e : ℕ) → e ≤ length l → x ≡ cons_of (Some v) (from l e) → Scanned l z o (next v e)) → (Few x → o ≡ None) → Scanned l z o (then_number r next)
-then_number_lem l z o x (Value v e) next f found short = found v e f.0 f.1
-then_number_lem l z o x NoNumber next f found short = short f
+then_number_lem l z o x (Some (v, e)) next f found short = found v e f.0 f.1
+then_number_lem l z o x None next f found short = short f
 
 -- the line's end: nothing but blanks is left of the line
 end_here : (l z : List ℕ) → Ends z → (m : Line) → Scanned l z (Some m) (line_end (l ++ z) (length l) m)
@@ -204,7 +200,7 @@ end_here l z (at_newline w) m =
     rw (lt-ltb (length l) (length (l ++ (10 ∷ w))) (omega arith), get_or-append_seam l 10 w 0) (refl, drop-append-add l (10 ∷ w) 1, omega arith)
 
 -- the line goes on
-end_later : (l z : List ℕ) (p : ℕ) (m : Line) → Solid l → p < length l → line_end (l ++ z) p m ≡ NoLine
+end_later : (l z : List ℕ) (p : ℕ) (m : Line) → Solid l → p < length l → line_end (l ++ z) p m ≡ None
 unfolding line_end
 end_later l z p m s h =
     let k = length-append l z in
@@ -250,22 +246,22 @@ module _ (l z : List ℕ) (solid : Solid l) (ends : Ends z) where
 
 -- ---- the text, line by line
 -- the lines of a text whose first line was scanned
-abbrev pub after_line : LineRead → List ℕ → Option (List Line)
-after_line (Read m u) t = cons_of (Some m) (text_lines (drop u t))
-after_line NoLine t = None
+abbrev pub after_line : Option (Line × ℕ) → List ℕ → Option (List Line)
+after_line (Some (m, u)) t = cons_of (Some m) (text_lines (drop u t))
+after_line None t = None
 
-abbrev pub Takes : ℕ → LineRead → Type 0
-Takes n (Read m u) = u ≤ n
-Takes n NoLine = Unit {0}
+abbrev pub Takes : ℕ → Option (Line × ℕ) → Type 0
+Takes n (Some (m, u)) = u ≤ n
+Takes n None = Unit {0}
 
-after_scanned : (l z : List ℕ) (r : LineRead) → Scanned l z (line_of l) r → cons_of (line_of l) (text_lines (drop 1 z)) ≡ after_line r (l ++ z)
+after_scanned : (l z : List ℕ) (r : Option (Line × ℕ)) → Scanned l z (line_of l) r → cons_of (line_of l) (text_lines (drop 1 z)) ≡ after_line r (l ++ z)
 unfolding cons_of
-after_scanned l z (Read m u) s = rw (s.0, s.1)
-after_scanned l z NoLine s = rw s
+after_scanned l z (Some (m, u)) s = rw (s.0, s.1)
+after_scanned l z None s = rw s
 
-scanned_takes : (l z : List ℕ) (o : Option Line) (r : LineRead) → Scanned l z o r → Takes (length (l ++ z)) r
-scanned_takes l z o (Read m u) s = s.2
-scanned_takes l z o NoLine s = tt
+scanned_takes : (l z : List ℕ) (o : Option Line) (r : Option (Line × ℕ)) → Scanned l z o r → Takes (length (l ++ z)) r
+scanned_takes l z o (Some (m, u)) s = s.2
+scanned_takes l z o None s = tt
 
 -- the first line of a text, as it is scanned, and the lines of what it leaves
 split_step : (l z : List ℕ) → Solid l → Ends z → 0 < length (l ++ z) → text_lines (l ++ z) ≡ after_line (scan_line (l ++ z)) (l ++ z)

@@ -1,12 +1,8 @@
 -- The scans of the reader, turn by turn, in the words of the code: each law's premises are what a place knows. Assumes
 -- nothing.
-use Rattle.std.proofs.Common.{◌≡◌, ℕ, ◌+◌, ◌-◌, ◌*◌, ◌<◌, ◌≤◌, Bool, true, false, not, eqb, leb, List, [], ◌∷◌, length, get_or, drop, sym, refl, ◌∙◌, add-one, arith, drop_of_length-le, drop-cons, w64, Fits, rules, le-ltb, lt-ltb, eq-eqb, ne_eqb, le-leb, leb-true}
-use borrow.Author.Tests.{lt-leb, not-true, not-false}
+use Rattle.std.proofs.Common.{◌≡◌, ℕ, ◌+◌, ◌-◌, ◌*◌, ◌<◌, ◌≤◌, Bool, true, false, not, eqb, leb, List, [], ◌∷◌, length, get_or, drop, sym, refl, ◌∙◌, add-one, arith, drop_of_length-le, drop-cons, w64, Fits, rules, le-ltb, lt-ltb, eq-eqb, ne_eqb, le-leb, leb-true, Option, Some, None}
+use borrow.Author.Tests.{lt-leb}
 use Rattle.idmap.specs.declared.Line.{Line}
-use Rattle.idmap.specs.declared.text.NumberRead.{NumberRead}
-use Rattle.idmap.specs.declared.text.NumberRead.TheVariants.{Value, NoNumber}
-use Rattle.idmap.specs.declared.text.LineRead.{LineRead}
-use Rattle.idmap.specs.declared.text.LineRead.TheVariants.{Read, NoLine}
 use Rattle.idmap.specs.Good.{no_id}
 use Rattle.idmap.specs.Text.{is_blank, is_digit}
 use Rattle.idmap.specs.Scan.{span, value, skipped, ended, number_at, field_at, line_end, scan_line}
@@ -42,13 +38,13 @@ module _ (p : ℕ → Bool) (s : List ℕ) (i : ℕ) where
 
 -- ---- skip
 module _ (s : List ℕ) (at i : ℕ) (inv : skipped s at ≡ skipped s i) where
-  pub skip_step : (t : Bool) → i < length s → t ≡ is_blank (get_or s i 0) → not t ≡ false → skipped s at ≡ skipped s (i + 1)
+  pub skip_step : (t : Bool) → i < length s → t ≡ is_blank (get_or s i 0) → t ≡ true → skipped s at ≡ skipped s (i + 1)
   unfolding skipped
-  skip_step t h e y = inv ∙ span_step is_blank s i h (sym e ∙ not-false t y)
+  skip_step t h e y = inv ∙ span_step is_blank s i h (sym e ∙ y)
 
-  pub skip_stop : (t : Bool) → i < length s → t ≡ is_blank (get_or s i 0) → not t ≡ true → i ≡ skipped s at
+  pub skip_stop : (t : Bool) → i < length s → t ≡ is_blank (get_or s i 0) → t ≡ false → i ≡ skipped s at
   unfolding skipped
-  skip_stop t h e n = sym (inv ∙ span_stop is_blank s i h (sym e ∙ not-true t n))
+  skip_stop t h e n = sym (inv ∙ span_stop is_blank s i h (sym e ∙ n))
 
   pub skip_end : length s ≤ i → i ≡ skipped s at
   unfolding skipped
@@ -56,11 +52,11 @@ module _ (s : List ℕ) (at i : ℕ) (inv : skipped s at ≡ skipped s i) where
 
 -- ---- made
 module _ (at e v : ℕ) (small : v ≤ no_id) where
-  pub made_none : e ≡ at → NoNumber ≡ ended at e v
+  pub made_none : e ≡ at → None ≡ ended at e v
   unfolding ended
   made_none h = simp (le-leb v no_id small, eq-eqb e at h)
 
-  pub made_some : (e ≡ at → ⊥) → Value v e ≡ ended at e v
+  pub made_some : (e ≡ at → ⊥) → Some (v, e) ≡ ended at e v
   unfolding ended
   made_some h = simp (le-leb v no_id small, ne_eqb e at h)
 
@@ -86,17 +82,17 @@ value_le v (c ∷ s) =
     cond_elim (λ (n : ℕ). v ≤ n) (is_digit c) (let h = value_le (v * 10 + (c - 48)) s in omega arith) (omega arith)
 
 -- the number from `at`, of which v was read up to i
-pub number_from : List ℕ → ℕ → ℕ → ℕ → NumberRead
+pub number_from : List ℕ → ℕ → ℕ → ℕ → Option (ℕ × ℕ)
 number_from s at v i = ended at (i + span is_digit (drop i s)) (value v (drop i s))
 
 pub number_starts : (s : List ℕ) (at : ℕ) → number_at s at ≡ number_from s at 0 at
 unfolding number_at number_from
 number_starts s at = refl
 
-module _ (c : ℕ) (t : Bool) (e : t ≡ is_digit c) (y : not t ≡ false) where
+module _ (c : ℕ) (t : Bool) (e : t ≡ is_digit c) (y : t ≡ true) where
   digit_bounds : (48 ≤ c) × (c ≤ 57)
   digit_bounds =
-      let h = both (leb 48 c) (leb c 57) (sym e ∙ not-false t y) in
+      let h = both (leb 48 c) (leb c 57) (sym e ∙ y) in
       (leb-true 48 c h.0, leb-true c 57 h.1)
 
   pub digit_least : 48 ≤ c
@@ -109,19 +105,19 @@ module _ (c : ℕ) (t : Bool) (e : t ≡ is_digit c) (y : not t ≡ false) where
   digit_adds v small = let h = digit_bounds in omega arith
 
 module _ (s : List ℕ) (at v i : ℕ) (inv : number_at s at ≡ number_from s at v i) where
-  pub number_step : (t : Bool) → i < length s → t ≡ is_digit (get_or s i 0) → not t ≡ false → number_at s at ≡ number_from s at (v * 10 + (get_or s i 0 - 48)) (i + 1)
+  pub number_step : (t : Bool) → i < length s → t ≡ is_digit (get_or s i 0) → t ≡ true → number_at s at ≡ number_from s at (v * 10 + (get_or s i 0 - 48)) (i + 1)
   unfolding number_from
-  number_step t h e y = inv ∙ rw (span_step is_digit s i h (sym e ∙ not-false t y), value_step s v i h (sym e ∙ not-false t y))
+  number_step t h e y = inv ∙ rw (span_step is_digit s i h (sym e ∙ y), value_step s v i h (sym e ∙ y))
 
-  pub number_stop : (t : Bool) (r : NumberRead) → i < length s → t ≡ is_digit (get_or s i 0) → not t ≡ true → r ≡ ended at i v → r ≡ number_at s at
+  pub number_stop : (t : Bool) (r : Option (ℕ × ℕ)) → i < length s → t ≡ is_digit (get_or s i 0) → t ≡ false → r ≡ ended at i v → r ≡ number_at s at
   unfolding number_from
-  number_stop t r h e n m = m ∙ sym (inv ∙ rw (span_stop is_digit s i h (sym e ∙ not-true t n), value_stop s v i h (sym e ∙ not-true t n)))
+  number_stop t r h e n m = m ∙ sym (inv ∙ rw (span_stop is_digit s i h (sym e ∙ n), value_stop s v i h (sym e ∙ n)))
 
-  pub number_end : (r : NumberRead) → length s ≤ i → r ≡ ended at i v → r ≡ number_at s at
+  pub number_end : (r : Option (ℕ × ℕ)) → length s ≤ i → r ≡ ended at i v → r ≡ number_at s at
   unfolding number_from
   number_end r h m = m ∙ sym (inv ∙ rw (span_end is_digit s i h, value_end s v i h))
 
-  pub number_over : (t : Bool) → i < length s → t ≡ is_digit (get_or s i 0) → not t ≡ false → no_id < v * 10 + (get_or s i 0 - 48) → NoNumber ≡ number_at s at
+  pub number_over : (t : Bool) → i < length s → t ≡ is_digit (get_or s i 0) → t ≡ true → no_id < v * 10 + (get_or s i 0 - 48) → None ≡ number_at s at
   unfolding number_from ended
   number_over t h e y o =
       let w = v * 10 + (get_or s i 0 - 48) in
@@ -129,69 +125,40 @@ module _ (s : List ℕ) (at v i : ℕ) (inv : number_at s at ≡ number_from s a
       sym (number_step t h e y ∙ rw (lt-leb (value w (drop (i + 1) s)) no_id (omega arith)))
 
 -- ---- field
-pub field_is : (s : List ℕ) (at p : ℕ) (r : NumberRead) → p ≡ skipped s at → r ≡ number_at s p → r ≡ field_at s at
+pub field_is : (s : List ℕ) (at p : ℕ) (r : Option (ℕ × ℕ)) → p ≡ skipped s at → r ≡ number_at s p → r ≡ field_at s at
 unfolding field_at
 field_is s at p r e f = rw e at f
 
 -- ---- line_end
 module _ (s : List ℕ) (e : ℕ) (l : Line) where
-  pub end_newline : e < length s → get_or s e 0 ≡ 10 → Read l (e + 1) ≡ line_end s e l
+  pub end_newline : e < length s → get_or s e 0 ≡ 10 → Some (l, e + 1) ≡ line_end s e l
   unfolding line_end
   end_newline h n = simp (lt-ltb e (length s) h, eq-eqb (get_or s e 0) 10 n)
 
-  pub end_other : e < length s → (get_or s e 0 ≡ 10 → ⊥) → NoLine ≡ line_end s e l
+  pub end_other : e < length s → (get_or s e 0 ≡ 10 → ⊥) → None ≡ line_end s e l
   unfolding line_end
   end_other h n = simp (lt-ltb e (length s) h, ne_eqb (get_or s e 0) 10 n)
 
-  pub end_text : length s ≤ e → Read l e ≡ line_end s e l
+  pub end_text : length s ≤ e → Some (l, e) ≡ line_end s e l
   unfolding line_end
   end_text h = simp (le-ltb e (length s) h)
 
 -- ---- parse_line
-module _ (s : List ℕ) (r₁ : NumberRead) (f₁ : r₁ ≡ field_at s 0) where
-  pub line_no_first : r₁ ≡ NoNumber → NoLine ≡ scan_line s
+module _ (s : List ℕ) (r₁ : Option (ℕ × ℕ)) (f₁ : r₁ ≡ field_at s 0) where
+  pub line_no_first : r₁ ≡ None → None ≡ scan_line s
   unfolding scan_line
   line_no_first n = rw (sym f₁ ∙ n)
 
-  module _ (a p : ℕ) (v₁ : r₁ ≡ Value a p) (r₂ : NumberRead) (f₂ : r₂ ≡ field_at s p) where
-    pub line_no_second : r₂ ≡ NoNumber → NoLine ≡ scan_line s
+  module _ (a p : ℕ) (v₁ : r₁ ≡ Some (a, p)) (r₂ : Option (ℕ × ℕ)) (f₂ : r₂ ≡ field_at s p) where
+    pub line_no_second : r₂ ≡ None → None ≡ scan_line s
     unfolding scan_line
     line_no_second n = rw (sym f₁ ∙ v₁, sym f₂ ∙ n)
 
-    module _ (b q : ℕ) (v₂ : r₂ ≡ Value b q) (r₃ : NumberRead) (f₃ : r₃ ≡ field_at s q) where
-      pub line_no_third : r₃ ≡ NoNumber → NoLine ≡ scan_line s
+    module _ (b q : ℕ) (v₂ : r₂ ≡ Some (b, q)) (r₃ : Option (ℕ × ℕ)) (f₃ : r₃ ≡ field_at s q) where
+      pub line_no_third : r₃ ≡ None → None ≡ scan_line s
       unfolding scan_line
       line_no_third n = rw (sym f₁ ∙ v₁, sym f₂ ∙ v₂, sym f₃ ∙ n)
 
-      pub line_whole : (c e n : ℕ) (r : LineRead) → r₃ ≡ Value c e → n ≡ skipped s e → r ≡ line_end s n (record { inside = a; parent = b; count = c }) → r ≡ scan_line s
+      pub line_whole : (c e n : ℕ) (r : Option (Line × ℕ)) → r₃ ≡ Some (c, e) → n ≡ skipped s e → r ≡ line_end s n (record { inside = a; parent = b; count = c }) → r ≡ scan_line s
       unfolding scan_line
       line_whole c e n r v₃ k m = rw (sym f₁ ∙ v₁, sym f₂ ∙ v₂, sym f₃ ∙ v₃, ← k) m
-
-pub ruleset scans = (
-  blank_space,
-  blank_tab,
-  digit_high,
-  digit_low,
-  skip_step,
-  skip_stop,
-  skip_end,
-  made_none,
-  made_some,
-  digit_least,
-  digit_fits,
-  digit_adds,
-  number_starts,
-  number_step,
-  number_stop,
-  number_end,
-  number_over,
-  field_is,
-  end_newline,
-  end_other,
-  end_text,
-  line_no_first,
-  line_no_second,
-  line_no_third,
-  line_whole,
-  rules,
-)

@@ -9,6 +9,27 @@ use Rattle.idmap.specs.Lookup.{flip}
 abbrev pub four_at : List ℕ → ℕ → List ℕ
 four_at ws i = get_or ws i 0 ∷ get_or ws (suc i) 0 ∷ get_or ws (suc (suc i)) 0 ∷ get_or ws (suc (suc (suc i))) 0 ∷ []
 
+-- the first four words, whose line is the first
+abbrev pub four : List ℕ → List ℕ
+four ws = get_or ws 0 0 ∷ get_or ws 1 0 ∷ get_or ws 2 0 ∷ get_or ws 3 0 ∷ []
+
+pub lines_next : (from to : ℕ) (ws : List ℕ) → line_words ≤ length ws → lines_by from to ws ≡ line_of from to (four ws) ∷ lines_by from to (drop line_words ws)
+unfolding lines_by
+lines_next from to [] h = absurd (omega arith)
+lines_next from to (a ∷ []) h = absurd (omega arith)
+lines_next from to (a ∷ b ∷ []) h = absurd (omega arith)
+lines_next from to (a ∷ b ∷ c ∷ []) h = absurd (omega arith)
+lines_next from to (a ∷ b ∷ c ∷ d ∷ ws) h = refl
+
+-- too few words for a line
+pub lines_none : (from to : ℕ) (ws : List ℕ) → length ws < line_words → lines_by from to ws ≡ []
+unfolding lines_by
+lines_none from to [] h = refl
+lines_none from to (a ∷ []) h = refl
+lines_none from to (a ∷ b ∷ []) h = refl
+lines_none from to (a ∷ b ∷ c ∷ []) h = refl
+lines_none from to (a ∷ b ∷ c ∷ d ∷ ws) h = absurd (omega arith)
+
 module _ (from to : ℕ) (ws : List ℕ) (i : ℕ) where
   -- the line that they hold is the one at place i
   pub line_is : from < line_words → to < line_words → line_of from to (four_at ws i) ≡ line_at from to ws i
@@ -29,17 +50,8 @@ module _ (from to : ℕ) (ws : List ℕ) (i : ℕ) where
       rw (drop-cons ws i 0 (omega arith), drop-cons ws (suc i) 0 (omega arith), drop-cons ws (suc (suc i)) 0 (omega arith), drop-cons ws (suc (suc (suc i))) 0 (omega arith))
       (λ j. line_is f t j ∷ lines_by from to (drop (past j) ws))
 
-  -- too few words are left for a line
-  short : (l : List ℕ) → length l < line_words → lines_by from to l ≡ []
-  unfolding lines_by
-  short [] h = refl
-  short (a ∷ []) h = refl
-  short (a ∷ b ∷ []) h = refl
-  short (a ∷ b ∷ c ∷ []) h = refl
-  short (a ∷ b ∷ c ∷ d ∷ l) h = absurd (omega arith)
-
   pub lines_end : length ws - i < line_words → lines_by from to (drop i ws) ≡ []
-  lines_end h = short (drop i ws) (simp length-drop h)
+  lines_end h = lines_none from to (drop i ws) (simp length-drop h)
 
 -- the other way round
 pub lines_flip : (from to : ℕ) (ws : List ℕ) → lines_by to from ws ≡ map flip (lines_by from to ws)

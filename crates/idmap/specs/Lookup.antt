@@ -1,5 +1,5 @@
 -- What the lines of one map make of an ID. Assumes nothing.
-use Rattle.std.specs.Prelude.{◌≡◌, ℕ, ◌+◌, ◌-◌, ◌<◌, Bool, cond, ◌↔◌, List, [], ◌∷◌, map, length, slice_index_or, Option, Some, None}
+use Rattle.std.specs.Prelude.{◌≡◌, ℕ, ◌+◌, ◌-◌, ◌<◌, Bool, cond, ◌↔◌, List, [], ◌∷◌, map, length, slice_index_or, unwrap_or, Option, Some, None}
 use Rattle.idmap.specs.declared.Line.{Line}
 use Rattle.idmap.specs.declared.LookedUp.{LookedUp}
 use Rattle.idmap.specs.Line.{less, more, in_range, no_line}
@@ -46,8 +46,7 @@ then_id None next = None
 
 -- an ID, or another value where there is none
 abbrev pub id_or : ℕ → Option ℕ → ℕ
-id_or other (Some x) = x
-id_or other None = other
+id_or other r = unwrap_or r other
 
 -- document 01: what a process is shown for an ID that has no translation into its namespace
 abbrev pub overflow_id : ℕ

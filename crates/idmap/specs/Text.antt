@@ -2,8 +2,7 @@
 use Rattle.std.specs.Prelude.{ℕ, ◌+◌, ◌-◌, ◌*◌, Bool, true, cond, ◌&&◌, ◌||◌, List, [], ◌∷◌, ◌++◌, length, replicate, ◌==◌, nat_le, Option, Some, None}
 use Rattle.prelude.specs.Lists.{all_of}
 use Rattle.idmap.specs.declared.Line.{Line}
-use Rattle.idmap.specs.declared.text.Parsed.TheVariants.{Lines, Bad}
-use Rattle.idmap.specs.declared.text.MapText.{MapText}
+use Rattle.idmap.specs.declared.MapLines.{MapLines}
 use Rattle.idmap.specs.Line.{no_line}
 use Rattle.idmap.specs.Good.{max_lines, no_id, good_of}
 
@@ -80,6 +79,6 @@ map_lines text = checked (text_lines text)
 unfoldable pub padded : List Line → List Line
 padded ls = ls ++ replicate (max_lines - length ls) no_line
 
-unfoldable pub map_text : Option (List Line) → MapText
-map_text None = record { parsed = Bad; lines = replicate max_lines no_line }
-map_text (Some ls) = record { parsed = Lines (length ls); lines = padded ls }
+unfoldable pub map_text : Option (List Line) → Option MapLines
+map_text None = None
+map_text (Some ls) = Some (record { count = length ls; lines = padded ls })

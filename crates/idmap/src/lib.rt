@@ -2,6 +2,8 @@
 // User and group maps use the same code. Nothing here knows a table, a process or a namespace.
 #![tactic(auto)]
 
+ghost use Rattle.std.specs.Prelude.{◌≡◌, ◌%◌, ◌^◌, take};
+
 pub mod lookup;
 pub mod overlap;
 pub mod range;
@@ -50,17 +52,32 @@ pub const NO_LINE: Line = Line {
     count: 0,
 };
 
-// What an ID becomes.
+// The lines of a map, in an array of as many as a map has: those past the first `count` are empty.
 #[derive(Clone, Copy)]
-pub enum Translated {
-    Id(u32),
-    Unmapped,
+pub struct MapLines {
+    pub count: usize,
+    pub lines: [Line; MAX_LINES],
 }
 
-// What a lookup answers: what the ID becomes, and how many IDs, from this one to the end of its line, translate by the
-// same offset. Where the ID is unmapped there are none.
+impl MapLines {
+    pub fn as_slice(&self) -> &[Line]
+        ensures { result.now ≡ take self.now.count self.now.lines }
+    {
+        &self.lines[..self.count.min(MAX_LINES)]
+    }
+}
+
+// What a lookup answers: what the ID becomes, if a line holds it, and how many IDs, from this one to the end of its line,
+// translate by the same offset. Where the ID is unmapped there are none.
 #[derive(Clone, Copy)]
 pub struct LookedUp {
-    pub translated: Translated,
+    pub translated: Option<u32>,
     pub reach: u32,
+}
+
+// The ID that a word keeps.
+pub fn low(word: u64) -> u32
+    ensures { result ≡ word % 2 ^ 32 }
+{
+    (word % TWO_TO_32) as u32
 }

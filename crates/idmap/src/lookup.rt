@@ -1,26 +1,26 @@
 // Lookups through the lines of one map, which stand in lent words, four to a line.
-ghost use Rattle.std.specs.Prelude.{◌≡◌, ◌+◌, ◌<◌, true, length};
-ghost use Rattle.idmap.specs.Line.{in_range, line_words, line_at, lines_by, lines_in, kernel_lines_in};
-ghost use Rattle.idmap.specs.Lookup.{held_by, lookup_of, out, back, id_or};
+ghost use Rattle.std.specs.Prelude.{◌≡◌, ◌<◌, true};
+ghost use Rattle.idmap.specs.Line.{in_range, line_words, line_of, lines_by, lines_in, kernel_lines_in};
+ghost use Rattle.idmap.specs.Lookup.{held_by, lookup_of, out, back};
 
-use crate::{COUNT, INSIDE, KERNEL, LINE_WORDS, Line, LookedUp, PARENT, TWO_TO_32, Translated};
+use crate::{COUNT, INSIDE, KERNEL, LINE_WORDS, Line, LookedUp, PARENT, low};
 
 // Whether `id` is one of the `count` IDs from `start` on.
 pub fn in_range(id: u32, start: u32, count: u32) -> bool
     ensures { result ≡ in_range id start count }
 {
-    std::num::wrapping_sub_u32(id, start) < count
+    id.wrapping_sub(start) < count
 }
 
-// The line from one column to another whose words stand from place `at` on.
-fn line_at(words: &[u64], at: usize, from: usize, to: usize) -> Line
-    requires { (at + 3 < length words.now) × (from < line_words) × (to < line_words) }
-    ensures { result ≡ line_at from to words.now at }
+// The line from one column to another of a line's words.
+fn line_of(row: [u64; LINE_WORDS], from: usize, to: usize) -> Line
+    requires { (from < line_words) × (to < line_words) }
+    ensures { result ≡ line_of from to row }
 {
     Line {
-        inside: (words[at + from] % TWO_TO_32) as u32,
-        parent: (words[at + to] % TWO_TO_32) as u32,
-        count: (words[at + COUNT] % TWO_TO_32) as u32,
+        inside: low(row[from]),
+        parent: low(row[to]),
+        count: low(row[COUNT]),
     }
 }
 
@@ -29,9 +29,9 @@ fn held(l: Line, id: u32) -> LookedUp
     requires { in_range id l.inside l.count ≡ true }
     ensures { result ≡ held_by l id }
 {
-    let offset = std::num::wrapping_sub_u32(id, l.inside);
+    let offset = id.wrapping_sub(l.inside);
     LookedUp {
-        translated: Translated::Id(std::num::wrapping_add_u32(l.parent, offset)),
+        translated: Some(l.parent.wrapping_add(offset)),
         reach: l.count - offset,
     }
 }
@@ -42,16 +42,16 @@ fn lookup(words: &[u64], id: u32, from: usize, to: usize) -> LookedUp
     requires { (from < line_words) × (to < line_words) }
     ensures { result ≡ lookup_of (lines_by from to words.now) id }
 {
-    let mut i: usize = 0;
-    while LINE_WORDS <= words.len() - i {
-        let l = line_at(words, i, from, to);
+    let mut left = words;
+    while let [inside, parent, count, kernel, rest @ ..] = left {
+        let l = line_of([*inside, *parent, *count, *kernel], from, to);
         if in_range(id, l.inside, l.count) {
             return held(l, id);
         }
-        i += LINE_WORDS;
+        left = rest;
     }
     LookedUp {
-        translated: Translated::Unmapped,
+        translated: None,
         reach: 0,
     }
 }
@@ -64,27 +64,16 @@ pub fn lookup_parent(words: &[u64], id: u32) -> LookedUp
 }
 
 // The kernel ID for an ID inside, by the kernel starts of the lines. Linux: map_id_down.
-pub fn lookup_kernel(words: &[u64], id: u32) -> Translated
+#[tactic(auto, unfolding(crate::specs::Lookup::out))]
+pub fn lookup_kernel(words: &[u64], id: u32) -> Option<u32>
     ensures { result ≡ out (kernel_lines_in words.now) id }
 {
-    let found = lookup(words, id, INSIDE, KERNEL);
-    found.translated
+    lookup(words, id, INSIDE, KERNEL).translated
 }
 
 // The ID inside for a kernel ID, by the kernel starts of the lines. Linux: map_id_up.
-pub fn lookup_inside(words: &[u64], id: u32) -> Translated
+pub fn lookup_inside(words: &[u64], id: u32) -> Option<u32>
     ensures { result ≡ back (kernel_lines_in words.now) id }
 {
-    let found = lookup(words, id, KERNEL, INSIDE);
-    found.translated
-}
-
-// The ID that a lookup finds, or `other` where it finds none.
-pub fn id_or(r: Translated, other: u32) -> u32
-    ensures { result ≡ id_or other r }
-{
-    match r {
-        Translated::Id(x) => x,
-        Translated::Unmapped => other,
-    }
+    lookup(words, id, KERNEL, INSIDE).translated
 }

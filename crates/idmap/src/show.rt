@@ -1,10 +1,12 @@
-// The text of a map that is read: each line as three numbers in columns, and its store into a buffer that the caller
-// lends.
-ghost use Rattle.std.specs.Prelude.{◌≡◌, ◌+◌, ◌≤◌, length};
+// The text of a map that is read: each line as three numbers in columns.
+ghost use Rattle.std.specs.Prelude.{◌≡◌};
 ghost use Rattle.prelude.specs.Parts.{fits_at, put_at};
 ghost use Rattle.idmap.specs.Show.{column_of, number_text, line_text};
 
 use crate::Line;
+
+// The columns of a number.
+const COLUMNS: usize = 10;
 
 // The bytes of the text of a line.
 pub const LINE_BYTES: usize = 33;
@@ -13,19 +15,17 @@ pub const LINE_BYTES: usize = 33;
 fn column(v: u32) -> u8
     ensures { result ≡ column_of v }
 {
-    if v == 0 { b' ' } else { (48 + v % 10) as u8 }
+    if v == 0 { b' ' } else { b'0' + (v % 10) as u8 }
 }
 
 // The number in 10 columns, filled from the right.
-fn number_text(n: u32) -> [u8; 10]
+fn number_text(n: u32) -> [u8; COLUMNS]
     ensures { result ≡ number_text n }
 {
-    let mut text: [u8; 10] = [b' '; 10];
-    text[9] = (48 + n % 10) as u8;
+    let mut text = [b' '; COLUMNS];
+    text[9] = b'0' + (n % 10) as u8;
     let mut v = n / 10;
-    let mut k: usize = 9;
-    while 0 < k {
-        k -= 1;
+    for k in (0..9).rev() {
         text[k] = column(v);
         v = v / 10;
     }
@@ -46,37 +46,11 @@ pub fn line_text(l: Line) -> [u8; LINE_BYTES]
     ]
 }
 
-fn store(buffer: &mut [u8], at: usize, text: &[u8])
-    requires { at + length text.now ≤ length buffer.old }
-    ensures { buffer.new ≡ put_at buffer.old at text.now }
-{
-    for i in 0..text.len() {
-        buffer[at + i] = text[i];
-    }
-}
-
-// Stores the bytes of `text` from place `at` on and answers true. Where they do not all fit, nothing changes and it
-// answers false.
-pub fn put_text(buffer: &mut [u8], at: usize, text: &[u8]) -> bool
-    ensures answer { result ≡ fits_at buffer.old at text.now }
-    ensures bytes { buffer.new ≡ put_at buffer.old at text.now }
-{
-    if buffer.len() < at {
-        return false;
-    }
-    if buffer.len() - at < text.len() {
-        return false;
-    }
-    store(buffer, at, text);
-    true
-}
-
 // Stores the text of a line from place `at` on and answers true. Where it does not fit, nothing changes and it answers
 // false.
 pub fn put_line(buffer: &mut [u8], at: usize, l: Line) -> bool
     ensures answer { result ≡ fits_at buffer.old at (line_text l) }
     ensures bytes { buffer.new ≡ put_at buffer.old at (line_text l) }
 {
-    let text = line_text(l);
-    put_text(buffer, at, &text)
+    rows::put(buffer, at, &line_text(l))
 }

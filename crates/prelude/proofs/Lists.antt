@@ -6,7 +6,7 @@ use Prim.Native.Nat.{ℕ, zero, suc, ◌+◌, ◌-◌, ◌<◌, ◌≤◌, min}
 use native.Mathlib.Numerals.{add-one}
 use native.Mathlib.Omega.{arith}
 use lib.Dec.{leb}
-use lib.ListN.{length, take, drop, get_or, set, replicate, length-take, take-append-drop, drop_of_length-le}
+use lib.ListN.{length, take, drop, get_or, set, replicate, length-take, length-drop, take-append-drop, drop_of_length-le}
 use lib.Seq.{drop-cons, drop-drop, drop-set-lt, get_or-take, length-take-le, take_all, take-suc, take-suc-set}
 use borrow.Author.Tests.{leb-true, leb-false}
 use Rattle.prelude.proofs.Tests.{by_test}
@@ -22,6 +22,10 @@ module _ {A : Type 0} (l : List A) (n i : ℕ) where
   -- nothing is left
   pub left_none : min n (length l) ≤ i → drop i (take n l) ≡ []
   left_none h = drop_of_length-le (take n l) {i = i} (simp length-take h)
+
+-- what the code has of a list behind its first k elements is what is left when they are dropped
+pub rest_is : {A : Type 0} (l : List A) (k : ℕ) → take (length l - k) (drop k l) ≡ drop k l
+rest_is l k = take_all (length l - k) (drop k l) (simp length-drop (omega arith))
 
 -- no more are taken than there are
 pub take_min : {A : Type 0} (n : ℕ) (l : List A) → take n l ≡ take (min n (length l)) l

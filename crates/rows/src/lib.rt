@@ -1,43 +1,27 @@
-// Rows of a lent array of words: the one store of a row, for every table, and the part of the array that a row is read
-// from.
+// Rows of a lent array: the one store of values into a part of an array, for every table, text and list, and the part that
+// a row is read from.
 #![tactic(auto)]
 
-ghost use Rattle.std.specs.Prelude.{◌≡◌, ◌+◌, ◌≤◌, length};
-ghost use Rattle.prelude.specs.Parts.{part, put_at};
+ghost use Rattle.std.specs.Prelude.{◌≡◌};
+ghost use Rattle.prelude.specs.Parts.{part, fits_at, put_at};
 
-fn store(t: &mut [u64], at: usize, row: &[u64])
-    requires { at + length row.now ≤ length t.old }
-    ensures { t.new ≡ put_at t.old at row.now }
+// Stores the values of `row` from place `at` on and answers true. Where they do not all fit, nothing changes and it
+// answers false.
+pub fn put<T: Copy>(t: &mut [T], at: usize, row: &[T]) -> bool
+    ensures answer { result ≡ fits_at t.old at row.now }
+    ensures stored { t.new ≡ put_at t.old at row.now }
 {
-    for i in 0..row.len() {
-        t[at + i] = row[i];
+    if t.len() < at || t.len() - at < row.len() {
+        return false;
     }
+    t[at..at + row.len()].copy_from_slice(row);
+    true
 }
 
-// Stores the words of `row` from place `at` on. Where they do not all fit, nothing changes.
-pub fn put(t: &mut [u64], at: usize, row: &[u64])
-    ensures { t.new ≡ put_at t.old at row.now }
-{
-    if t.len() < at {
-        return;
-    }
-    if t.len() - at < row.len() {
-        return;
-    }
-    store(t, at, row);
-}
-
-// The `width` words from place `at` on, as a part of `t`. What lies past the end is cut off.
-pub fn get(t: &[u64], at: usize, width: usize) -> &[u64]
+// The `width` values from place `at` on, as a part of `t`. What lies past the end is cut off.
+pub fn get<T>(t: &[T], at: usize, width: usize) -> &[T]
     ensures { result.now ≡ part width at t.now }
 {
-    let n = t.len();
-    if n < at {
-        return &t[n..];
-    }
-    if n - at < width {
-        return &t[at..];
-    }
-    let end = at + width;
-    &t[at..end]
+    let rest = &t[at.min(t.len())..];
+    &rest[..width.min(rest.len())]
 }
