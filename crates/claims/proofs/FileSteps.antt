@@ -1,6 +1,6 @@
 -- The writes of the map files and of the setgroups file: what each leaves agrees with its history, and it was allowed.
 -- Assumes nothing.
-use Rattle.std.specs.Prelude.{Some, None}
+use Rattle.std.specs.Prelude.{Some, None, Option}
 use Prim.Native.Nat.{ℕ, ◌-◌, ◌<◌}
 use mathlib.Core.Path.{◌≡◌, refl, sym, ap, ◌∙◌, subst}
 use mathlib.Core.Bool.{Bool, true, false, cond, ◌&&◌, true≢false}
@@ -19,8 +19,6 @@ use Rattle.idmap.specs.Text.{map_lines, padded}
 use Rattle.records.specs.declared.Kind.{Kind}
 use Rattle.records.specs.declared.Kind.TheVariants.{User, Group}
 use Rattle.records.specs.declared.Namespace.{Namespace}
-use Rattle.records.specs.declared.MapState.{MapState}
-use Rattle.records.specs.declared.MapState.TheVariants.{Unwritten, Written}
 use Rattle.records.specs.declared.IdMap.{IdMap}
 use Rattle.records.specs.Records.{map_in, is_written, with_map, with_deny}
 use Rattle.tables.specs.Tables.{State, process_at, namespace_at, starts_at, put_namespace, put_map}
@@ -91,9 +89,9 @@ some_lines text ls e = (subst Counted e (map_lines_counted text)).0
 unwritten_is : (m : IdMap) → is_written m.state ≡ false → written_in m ≡ None
 unwritten_is m e = by_state m.state e
   where
-    by_state : (t : MapState) → is_written t ≡ false → if_written t m.lines ≡ None
-    by_state Unwritten e = refl
-    by_state (Written n) e = absurd (true≢false e)
+    by_state : (t : Option ℕ) → is_written t ≡ false → if_written t m.lines ≡ None
+    by_state None e = refl
+    by_state (Some n) e = absurd (true≢false e)
 
 module _ (by : Translation) (s : State) (h : List Event) (a : Agreed s h) (b : Beside s h) (d : SoundAt h) (o : by ≡ by_history h) (text list : List ℕ) where
   -- the namespace of a process that is named

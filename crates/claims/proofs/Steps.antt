@@ -16,7 +16,6 @@ use Rattle.records.specs.declared.Kind.{Kind}
 use Rattle.records.specs.declared.Kind.TheVariants.{User, Group}
 use Rattle.records.specs.declared.Process.{Process}
 use Rattle.records.specs.declared.Namespace.{Namespace}
-use Rattle.records.specs.declared.MapState.TheVariants.{Unwritten}
 use Rattle.records.specs.Records.{map_in}
 use Rattle.tables.specs.Tables.{State, process_at, namespace_at, put_process, put_namespace, max_level}
 use Rattle.tables.specs.Find.{namespace_named, free_process_place, free_namespace_place, caller_named, process_number}
@@ -84,7 +83,7 @@ module _ (by : Translation) (s : State) (h : List Event) (a : Agreed s h) (b : B
   fresh_map User p n = refl
   fresh_map Group p n = refl
 
-  fresh_state : (k : Kind) (p : Process) (n : Namespace) → (map_in k (below p n)).state ≡ Unwritten
+  fresh_state : (k : Kind) (p : Process) (n : Namespace) → (map_in k (below p n)).state ≡ None
   unfolding below
   fresh_state User p n = refl
   fresh_state Group p n = refl

@@ -1,7 +1,7 @@
 -- The bench runs of document 01 that are marked P, and those of document 02, as one table: the calls, the reply that
 -- each is to get, and the tables that they are to leave. `scenarios_come_out` of proofs/Scenarios.antt proves that the
 -- whole table comes out. Assumes nothing.
-use Rattle.std.specs.Prelude.{ℕ, ◌-◌, ◌≡◌, Bool, true, false, List, [], ◌∷◌, ◌++◌, map, reverse, length, replicate}
+use Rattle.std.specs.Prelude.{ℕ, ◌-◌, ◌≡◌, Bool, true, false, List, [], ◌∷◌, ◌++◌, map, reverse, length, replicate, Some, None}
 use Prim.Native.Char.{code}
 use Prim.Native.String.{String, [] as empty, ◌∷◌ as ◌then◌}
 use Rattle.capability.specs.Sets.{full_set, empty_set}
@@ -10,7 +10,6 @@ use Rattle.idmap.specs.Line.{no_line}
 use Rattle.records.specs.declared.Kind.{Kind}
 use Rattle.records.specs.declared.Kind.TheVariants.{User, Group}
 use Rattle.records.specs.declared.Process.{Process}
-use Rattle.records.specs.declared.MapState.TheVariants.{Unwritten, Written}
 use Rattle.records.specs.declared.IdMap.{IdMap}
 use Rattle.records.specs.declared.Namespace.{Namespace}
 use Rattle.records.specs.Records.{free_namespace, free_process, no_groups}
@@ -110,10 +109,10 @@ line inside parent count = record { inside = inside; parent = parent; count = co
 
 -- the maps of a namespace: both unwritten, only the one of a kind written, or both written alike
 abbrev pub unwritten : Kind → IdMap
-unwritten kind = record { state = Unwritten; lines = replicate 5 no_line }
+unwritten kind = record { state = None; lines = replicate 5 no_line }
 
 abbrev pub written : List Line → IdMap
-written ls = record { state = Written (length ls); lines = ls ++ replicate (5 - length ls) no_line }
+written ls = record { state = Some (length ls); lines = ls ++ replicate (5 - length ls) no_line }
 
 abbrev pub only : Kind → List Line → Kind → IdMap
 only User ls User = written ls

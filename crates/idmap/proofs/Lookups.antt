@@ -8,21 +8,6 @@ use Rattle.idmap.specs.Lookup.{held_by, held_by_none, lookup_of, out, back}
 use Rattle.prelude.proofs.Lists.{rest_is}
 use Rattle.idmap.proofs.Words.{four, lines_next, lines_none, lines_flip}
 
--- in_range
-pub less_is : (id start d : ℕ) → (d + start) % 2 ^ 32 ≡ id → d < 2 ^ 32 → start < 2 ^ 32 → d ≡ less id start
-less_is id start d e h k = omega arith
-
-pub in_range_is : (id start count d : ℕ) → (d + start) % 2 ^ 32 ≡ id → d < 2 ^ 32 → start < 2 ^ 32 → ltb d count ≡ in_range id start count
-in_range_is id start count d e h k = ap (λ (n : ℕ). ltb n count) (less_is id start d e h k)
-
--- held
-module _ (l : Line) (id d : ℕ) (e : (d + l.inside) % 2 ^ 32 ≡ id) (h : d < 2 ^ 32) (k : l.inside < 2 ^ 32) where
-  pub held_left : in_range id l.inside l.count ≡ true → d ≤ l.count
-  held_left t = le_of_lt (ltb-true d l.count (in_range_is id l.inside l.count d e h k ∙ t))
-
-  pub held_is : (p : ℕ) → p ≡ (l.parent + d) % 2 ^ 32 → ◌≡◌ {A = LookedUp} (record { translated = Some p; reach = l.count - d }) (held_by l id)
-  held_is p m = rw (m, less_is id l.inside d e h k)
-
 -- lookup: a turn over the words that are left
 module _ (from to : ℕ) (left : List ℕ) (id : ℕ) where
   pub lookup_none : length left < line_words → lookup_of (lines_by from to left) id ≡ held_by_none
@@ -42,12 +27,8 @@ module _ (from to : ℕ) (left : List ℕ) (id : ℕ) where
     unfolding lookup_of
     lookup_miss n = lookup_step ∙ rw (n, rest_is left line_words)
 
--- lookup_kernel, lookup_inside
+-- lookup_inside
 module _ (from to : ℕ) (ws : List ℕ) (id : ℕ) (r : LookedUp) where
-  pub translated_out : r ≡ lookup_of (lines_by from to ws) id → r.translated ≡ out (lines_by from to ws) id
-  unfolding out
-  translated_out e = ap (λ (a : LookedUp). a.translated) e
-
   pub translated_back : r ≡ lookup_of (lines_by to from ws) id → r.translated ≡ back (lines_by from to ws) id
   unfolding out
   translated_back e = ap (λ (a : LookedUp). a.translated) (rw (lines_flip from to ws) at e)

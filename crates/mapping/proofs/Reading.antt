@@ -25,8 +25,6 @@ use Rattle.idmap.specs.Good.{max_lines, no_id}
 use Rattle.idmap.specs.Show.{line_bytes, line_text, lines_text}
 use Rattle.idmap.proofs.Shows.{length_line_text, length_lines_text}
 use Rattle.records.specs.declared.Kind.{Kind}
-use Rattle.records.specs.declared.MapState.{MapState}
-use Rattle.records.specs.declared.MapState.TheVariants.{Unwritten, Written}
 use Rattle.records.specs.declared.IdMap.{IdMap}
 use Rattle.records.specs.declared.Process.{Process}
 use Rattle.records.specs.declared.Namespace.{Namespace}
@@ -62,19 +60,19 @@ module _ (s : State) (kind : Kind) (n v : ℕ) (l : Line) (t : Namespace) (read 
   shown_none e = rw (← read, ← start, e)
 
 -- ---- line_count
-module _ (st : MapState) (n : ℕ) (written : st ≡ Written n) where
+module _ (st : Option ℕ) (n : ℕ) (written : st ≡ Some n) where
   pub count_some : n < max_lines → n ≡ line_count st
   count_some h = rw written (omega arith)
 
   pub count_most : max_lines ≤ n → max_lines ≡ line_count st
   count_most h = rw written (omega arith)
 
-pub count_bounded : (st : MapState) (k : ℕ) → k ≡ line_count st → k ≤ 5
-count_bounded Unwritten k e = omega arith
-count_bounded (Written n) k e = omega arith
+pub count_bounded : (st : Option ℕ) (k : ℕ) → k ≡ line_count st → k ≤ 5
+count_bounded None k e = omega arith
+count_bounded (Some n) k e = omega arith
 
 -- the length of as many texts of w bytes
-pub count_fits : (st : MapState) (k w : ℕ) → k ≡ line_count st → w < 256 → Fits w64 (k * w)
+pub count_fits : (st : Option ℕ) (k w : ℕ) → k ≡ line_count st → w < 256 → Fits w64 (k * w)
 count_fits st k w e h = let most = mul-le-mul_right w (count_bounded st k e) in record { fits = omega arith }
 
 -- ---- put_lines
@@ -127,9 +125,9 @@ length_stored b t t' vs at q e = ap length q ∙ length_put t at vs ∙ e
 
 -- ---- read_map
 -- a map's lines are the first of its places
-lines_counted : (st : MapState) (ls : List Line) → length ls ≡ max_lines → lines_if st ls ≡ take (line_count st) ls
-lines_counted Unwritten ls e = refl
-lines_counted (Written n) ls e = by_test (leb n 5)
+lines_counted : (st : Option ℕ) (ls : List Line) → length ls ≡ max_lines → lines_if st ls ≡ take (line_count st) ls
+lines_counted None ls e = refl
+lines_counted (Some n) ls e = by_test (leb n 5)
     (λ t. let h = leb-true n max_lines t in let k : n ≡ min n max_lines = omega arith in rw (← k))
     (λ t. let h = leb-false n max_lines t in take_all n ls (omega arith) ∙ sym (take_all (min n max_lines) ls (omega arith)))
 

@@ -23,7 +23,6 @@ use Rattle.idmap.specs.Ranges.{whole_by_reach}
 use Rattle.idmap.specs.Text.{max_text_bytes, map_lines, map_text, padded}
 use Rattle.records.specs.declared.Kind.{Kind}
 use Rattle.records.specs.declared.Ids.{Ids}
-use Rattle.records.specs.declared.MapState.TheVariants.{Written}
 use Rattle.records.specs.declared.IdMap.{IdMap}
 use Rattle.records.specs.declared.Process.{Process}
 use Rattle.records.specs.declared.Namespace.{Namespace}
@@ -200,11 +199,11 @@ module _ (l text : List ℕ) (kind : Kind) (w : Process) (n : ℕ) (m : Namespac
     read_lines : map_lines text ≡ Some (take k r.lines)
     read_lines = rw f (lines_some (map_lines text) k (rw f at v)).0
 
-    read_map_lem : ◌≡◌ {A = IdMap} (record { state = Written k; lines = r.lines }) (written_map (take k r.lines))
+    read_map_lem : ◌≡◌ {A = IdMap} (record { state = Some k; lines = r.lines }) (written_map (take k r.lines))
     read_map_lem =
         rw f
         (let h = lines_some (map_lines text) k (rw f at v) in
-        λ i. record { state = Written (sym h.1 i); lines = h.2 i })
+        λ i. record { state = Some (sym h.1 i); lines = h.2 i })
 
     module _ (t : Bool) (q : t ≡ may_map by (tables_of l) kind w m (take k r.lines)) where
       pub lines_denied : t ≡ false → Promise (Refused EPERM) l l (write_lines_to by (tables_of l) kind w n text)
@@ -221,7 +220,7 @@ module _ (l text : List ℕ) (kind : Kind) (w : Process) (n : ℕ) (m : Namespac
         lines_not_whole z = refuses EPERM l (write_lines_to by (tables_of l) kind w n text) (sym (rw (read_lines, ← tgt, ← q, y, ← whole_above, z)))
 
         pub lines_done : (kernel l' : List ℕ) → u ≡ true → kernel ≡ kernel_starts (to_kernel (tables_of l) kind m.parent) (take k r.lines)
-            → tables_of l' ≡ put_map (tables_of l) kind n (record { state = Written k; lines = r.lines }) kernel → Promise Done l l' (write_lines_to by (tables_of l) kind w n text)
+            → tables_of l' ≡ put_map (tables_of l) kind n (record { state = Some k; lines = r.lines }) kernel → Promise Done l l' (write_lines_to by (tables_of l) kind w n text)
         unfolding write_lines_to mapped_tables
         lines_done kernel l' z c p =
             answers Done l l' (write_lines_to by (tables_of l) kind w n text) refl

@@ -1,5 +1,5 @@
 -- The written lines of a map, read where their words stand. Assumes nothing.
-use Prim.Native.Nat.{ℕ, zero, suc, ◌+◌, ◌*◌, ◌≤◌, ◌<◌}
+use Prim.Native.Nat.{ℕ, zero, suc, ◌+◌, ◌*◌, ◌≤◌, ◌<◌, min}
 use mathlib.Core.Path.{◌≡◌, refl, sym, ap, ap₂, ◌∙◌}
 use mathlib.Core.List.{List, ◌∷◌, ◌++◌, zip_with}
 use native.Mathlib.Nat.{suc-mul}
@@ -7,7 +7,9 @@ use native.Mathlib.Omega.{arith}
 use lib.ListN.{length, get_or, take, drop}
 use lib.Seq.{drop-cons}
 use borrow.Author.Rules.{rules}
-use borrow.Author.Tests.{eq-eqb, ne_eqb}
+use borrow.Author.Tests.{eq-eqb, ne_eqb, ltb-true, ltb-false}
+use lib.Dec.{ltb}
+use Rattle.prelude.proofs.Tests.{by_test}
 use Rattle.prelude.specs.Parts.{part}
 use Rattle.prelude.specs.Lists.{tab}
 use Rattle.prelude.proofs.Lists.{zip_take}
@@ -67,18 +69,27 @@ module _ (ws r : List ℕ) (long : length ws ≡ map_width) where
       ap (lines_by inside_column to) q ∙ lines_words inside_column to (omega arith) t ws max_lines first_line_at (omega arith)
       ∙ sym (tab_whole (λ (j : ℕ). line_at inside_column to ws (first_line_at + line_words * j)) n max_lines 0 h)
 
-  module _ (n : ℕ) (e : n ≡ get_or ws 1 0) (t : get_or ws 0 0 ≡ 1) where
-    pub written_some : n < max_lines → r ≡ part (n * line_words) first_line_at ws → LinesOf r (map_of ws) (starts_in ws)
-    written_some h q = record {
-      written = some_lines n parent_column (omega arith) h q ∙ rw (eq-eqb (get_or ws 0 0) 1 t, ← e);
-      kernel = some_lines n kernel_column (omega arith) h q ∙ rw (eq-eqb (get_or ws 0 0) 1 t, ← e) (ap (take n) (kernel_places ws) ∙ zip_take on_kernel n (map_of ws).lines (starts_in ws));
+  -- as many as the map says, and as there are places for
+  module _ (n m : ℕ) (e : n ≡ get_or ws 1 0) (t : get_or ws 0 0 ≡ 1) where
+    both_columns : (lines_by inside_column parent_column r ≡ take n (places parent_column ws)) → (lines_by inside_column kernel_column r ≡ take n (places kernel_column ws)) → LinesOf r (map_of ws) (starts_in ws)
+    both_columns p k = record {
+      written = p ∙ rw (eq-eqb (get_or ws 0 0) 1 t, ← e);
+      kernel = k ∙ rw (eq-eqb (get_or ws 0 0) 1 t, ← e) (ap (take n) (kernel_places ws) ∙ zip_take on_kernel n (map_of ws).lines (starts_in ws));
     }
 
-    pub written_all : max_lines ≤ n → r ≡ part (line_words * max_lines) first_line_at ws → LinesOf r (map_of ws) (starts_in ws)
-    written_all h q = record {
-      written = all_lines n parent_column (omega arith) h q ∙ rw (eq-eqb (get_or ws 0 0) 1 t, ← e);
-      kernel = all_lines n kernel_column (omega arith) h q ∙ rw (eq-eqb (get_or ws 0 0) 1 t, ← e) (ap (take n) (kernel_places ws) ∙ zip_take on_kernel n (map_of ws).lines (starts_in ws));
-    }
+    pub written_some : m ≡ min n max_lines → r ≡ part (m * line_words) first_line_at ws → LinesOf r (map_of ws) (starts_in ws)
+    written_some h q =
+        by_test (ltb n max_lines)
+        (λ s.
+        let below = ltb-true n max_lines s in
+        let same : m ≡ n = omega arith in
+        let r' : r ≡ part (n * line_words) first_line_at ws = rw same at q in
+        both_columns (some_lines n parent_column (omega arith) below r') (some_lines n kernel_column (omega arith) below r'))
+        (λ s.
+        let past = ltb-false n max_lines s in
+        let all : m * line_words ≡ line_words * max_lines = omega arith in
+        let r' : r ≡ part (line_words * max_lines) first_line_at ws = rw all at q in
+        both_columns (all_lines n parent_column (omega arith) past r') (all_lines n kernel_column (omega arith) past r'))
 
   pub written_none : (get_or ws 0 0 ≡ 1 → ⊥) → r ≡ part 0 first_line_at ws → LinesOf r (map_of ws) (starts_in ws)
   unfolding part lines_by zip_with
@@ -95,4 +106,4 @@ pub lines_other : (ws r : List ℕ) → (length ws ≡ map_width → ⊥) → r 
 unfolding part lines_by zip_with
 lines_other ws r h e = record { written = ap lines_in e ∙ ap lines_of (sym (map_other ws h)); kernel = ap kernel_lines_in e ∙ sym (λ i. on_kernels (lines_of (map_other ws h i)) (starts_from ws)) }
 
-pub ruleset lines = (written_some, written_all, written_none, lines_whole, lines_other, rules)
+pub ruleset lines = (written_some, written_none, lines_whole, lines_other, rules)

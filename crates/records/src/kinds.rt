@@ -1,19 +1,17 @@
-// What goes by the kind of an ID, and by the state of a map.
+// What goes by the kind of an ID.
 ghost use Rattle.std.specs.Prelude.{◌≡◌};
-ghost use Rattle.records.specs.Records.{ids_in, map_in, set_id_of, is_written};
+ghost use Rattle.records.specs.Records.{ids_in, map_in, set_id_of};
 
-use crate::{IdMap, Ids, Kind, MapState, Namespace, Process};
+use crate::{IdMap, Ids, Kind, Namespace, Process};
 use capability::{CAP_SETGID, CAP_SETUID};
 
 // A process's IDs of a kind.
 pub fn ids_in(kind: Kind, p: Process) -> Ids
     ensures { result ≡ ids_in kind p }
 {
-    let users = p.users;
-    let groups = p.groups;
     match kind {
-        Kind::User => users,
-        Kind::Group => groups,
+        Kind::User => p.users,
+        Kind::Group => p.groups,
     }
 }
 
@@ -21,11 +19,9 @@ pub fn ids_in(kind: Kind, p: Process) -> Ids
 pub fn map_in(kind: Kind, n: Namespace) -> IdMap
     ensures { result ≡ map_in kind n }
 {
-    let users = n.users;
-    let groups = n.groups;
     match kind {
-        Kind::User => users,
-        Kind::Group => groups,
+        Kind::User => n.users,
+        Kind::Group => n.groups,
     }
 }
 
@@ -36,15 +32,5 @@ pub fn set_id(kind: Kind) -> u32
     match kind {
         Kind::User => CAP_SETUID,
         Kind::Group => CAP_SETGID,
-    }
-}
-
-// Whether a map is written.
-pub fn is_written(s: MapState) -> bool
-    ensures { result ≡ is_written s }
-{
-    match s {
-        MapState::Unwritten => false,
-        MapState::Written(_) => true,
     }
 }

@@ -5,7 +5,6 @@
 pub mod kinds;
 pub mod namespaces;
 pub mod processes;
-pub mod words;
 
 use capability::CapabilitySet;
 use idmap::{Line, MAX_LINES};
@@ -58,16 +57,10 @@ pub struct Process {
     pub effective: CapabilitySet,
 }
 
-// Whether a map is written, and with how many lines.
-#[derive(Clone, Copy)]
-pub enum MapState {
-    Unwritten,
-    Written(usize),
-}
-
+// A map: with how many lines it is written, if it is, and the lines.
 #[derive(Clone, Copy)]
 pub struct IdMap {
-    pub state: MapState,
+    pub state: Option<usize>,
     pub lines: [Line; MAX_LINES],
 }
 

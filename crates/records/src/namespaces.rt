@@ -4,9 +4,8 @@ ghost use Rattle.idmap.specs.Good.{max_lines};
 ghost use Rattle.idmap.specs.Line.{line_words, inside_column, parent_column, kernel_column, line_of, line_at};
 ghost use Rattle.records.specs.Records.{low_at, starts_in, starts_from, Cleared, unmapped, state_of, state_tag, state_count, first_line_at, map_width, map_at, map_of, map_from, LinesOf, free_map, free_namespace, namespace_width, namespace_of, namespace_from};
 
-use crate::words::flag_word;
-use crate::{IdMap, Kind, MapState, Namespace};
-use idmap::{LINE_WORDS, Line, MAX_LINES, NO_LINE, TWO_TO_32};
+use crate::{IdMap, Kind, Namespace};
+use idmap::{LINE_WORDS, Line, MAX_LINES, NO_LINE, low};
 
 // Where the parts of a map stand among its words.
 const STATE: usize = 0;
@@ -52,32 +51,10 @@ pub fn map_at(kind: Kind) -> usize
     }
 }
 
-fn state_of(tag: u64, n: u64) -> MapState
+fn state_of(tag: u64, n: u64) -> Option<usize>
     ensures { result ≡ state_of tag n }
 {
-    if tag == WRITTEN {
-        MapState::Written(n as usize)
-    } else {
-        MapState::Unwritten
-    }
-}
-
-fn state_tag(s: MapState) -> u64
-    ensures { result ≡ state_tag s }
-{
-    match s {
-        MapState::Unwritten => 0,
-        MapState::Written(_) => WRITTEN,
-    }
-}
-
-fn state_count(s: MapState) -> u64
-    ensures { result ≡ state_count s }
-{
-    match s {
-        MapState::Unwritten => 0,
-        MapState::Written(n) => n as u64,
-    }
+    if tag == WRITTEN { Some(n as usize) } else { None }
 }
 
 // Line `i` of a map's words, as it was written.
@@ -87,9 +64,9 @@ fn line_of(words: &[u64], i: usize) -> Line
 {
     let at = LINES + LINE_WORDS * i;
     Line {
-        inside: (words[at + idmap::INSIDE] % TWO_TO_32) as u32,
-        parent: (words[at + idmap::PARENT] % TWO_TO_32) as u32,
-        count: (words[at + idmap::COUNT] % TWO_TO_32) as u32,
+        inside: low(words[at + idmap::INSIDE]),
+        parent: low(words[at + idmap::PARENT]),
+        count: low(words[at + idmap::COUNT]),
     }
 }
 
@@ -98,14 +75,15 @@ fn map_of(words: &[u64]) -> IdMap
     requires { length words.now ≡ map_width }
     ensures { result ≡ map_of words.now }
 {
-    let a = line_of(words, 0);
-    let b = line_of(words, 1);
-    let c = line_of(words, 2);
-    let d = line_of(words, 3);
-    let e = line_of(words, 4);
     IdMap {
         state: state_of(words[STATE], words[COUNT]),
-        lines: [a, b, c, d, e],
+        lines: [
+            line_of(words, 0),
+            line_of(words, 1),
+            line_of(words, 2),
+            line_of(words, 3),
+            line_of(words, 4),
+        ],
     }
 }
 
@@ -127,16 +105,14 @@ pub fn map_words(m: IdMap, kernel: [u32; MAX_LINES]) -> [u64; MAP_WIDTH]
     ensures written { map_of result ≡ m }
     ensures kept { starts_in result ≡ kernel }
 {
-    let state = m.state;
-    let lines = m.lines;
-    let a = line_words(lines[0], kernel[0]);
-    let b = line_words(lines[1], kernel[1]);
-    let c = line_words(lines[2], kernel[2]);
-    let d = line_words(lines[3], kernel[3]);
-    let e = line_words(lines[4], kernel[4]);
+    let a = line_words(m.lines[0], kernel[0]);
+    let b = line_words(m.lines[1], kernel[1]);
+    let c = line_words(m.lines[2], kernel[2]);
+    let d = line_words(m.lines[3], kernel[3]);
+    let e = line_words(m.lines[4], kernel[4]);
     [
-        state_tag(state),
-        state_count(state),
+        m.state.is_some() as u64,
+        m.state.unwrap_or(0) as u64,
         a[0],
         a[1],
         a[2],
@@ -165,15 +141,13 @@ fn read_namespace(row: &[u64]) -> Namespace
     requires { length row.now ≡ namespace_width }
     ensures { result ≡ namespace_of row.now }
 {
-    let users = map_of(&row[USER_MAP..GROUP_MAP]);
-    let groups = map_of(&row[GROUP_MAP..DENY]);
     Namespace {
         live: row[LIVE] == 1,
         parent: row[PARENT],
         level: row[LEVEL],
-        owner: (row[OWNER] % TWO_TO_32) as u32,
-        users: users,
-        groups: groups,
+        owner: low(row[OWNER]),
+        users: map_of(&row[USER_MAP..GROUP_MAP]),
+        groups: map_of(&row[GROUP_MAP..DENY]),
         deny: row[DENY] == 1,
     }
 }
@@ -188,7 +162,7 @@ pub fn unmapped_words(parent: u64, level: u64, owner: u32, deny: bool) -> [u64; 
     row[PARENT] = parent;
     row[LEVEL] = level;
     row[OWNER] = owner as u64;
-    row[DENY] = flag_word(deny);
+    row[DENY] = deny as u64;
     row
 }
 
@@ -197,7 +171,7 @@ fn free_map() -> IdMap
     ensures { result ≡ free_map }
 {
     IdMap {
-        state: MapState::Unwritten,
+        state: None,
         lines: [NO_LINE; MAX_LINES],
     }
 }
@@ -206,19 +180,19 @@ fn free_map() -> IdMap
 pub fn free_namespace() -> Namespace
     ensures { result ≡ free_namespace }
 {
-    let none = free_map();
     Namespace {
         live: false,
         parent: 0,
         level: 0,
         owner: 0,
-        users: none,
-        groups: none,
+        users: free_map(),
+        groups: free_map(),
         deny: false,
     }
 }
 
 // The record that a row holds. A row of another length holds none.
+#[tactic(auto, unfolding(crate::specs::Records::namespace_from))]
 pub fn namespace_of(row: &[u64]) -> Namespace
     ensures { result ≡ namespace_from row.now }
 {
@@ -235,12 +209,8 @@ fn written_lines(words: &[u64]) -> &[u64]
     ensures { LinesOf result.now (map_of words.now) (starts_in words.now) }
 {
     if words[STATE] == WRITTEN {
-        let n = words[COUNT];
-        if n < MAX_LINES as u64 {
-            rows::get(words, LINES, (n as usize) * LINE_WORDS)
-        } else {
-            rows::get(words, LINES, LINES_WIDTH)
-        }
+        let n = words[COUNT].min(MAX_LINES as u64) as usize;
+        rows::get(words, LINES, n * LINE_WORDS)
     } else {
         rows::get(words, LINES, 0)
     }

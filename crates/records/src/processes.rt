@@ -2,10 +2,9 @@
 ghost use Rattle.std.specs.Prelude.{◌≡◌, length};
 ghost use Rattle.records.specs.Records.{process_width, free_process, process_of, process_from};
 
-use crate::words::flag_word;
 use crate::{GroupList, Ids, MAX_GROUPS, NO_GROUPS, Process, ZERO_IDS};
 use capability::CapabilitySet;
-use idmap::TWO_TO_32;
+use idmap::low;
 
 // The words of the IDs of one kind.
 const IDS_WIDTH: usize = 3;
@@ -37,34 +36,34 @@ fn read_process(row: &[u64]) -> Process
         live: row[LIVE] == 1,
         namespace: row[NAMESPACE],
         users: Ids {
-            real: (row[USERS] % TWO_TO_32) as u32,
-            effective: (row[USERS + 1] % TWO_TO_32) as u32,
-            saved: (row[USERS + 2] % TWO_TO_32) as u32,
+            real: low(row[USERS]),
+            effective: low(row[USERS + 1]),
+            saved: low(row[USERS + 2]),
         },
         groups: Ids {
-            real: (row[GROUPS] % TWO_TO_32) as u32,
-            effective: (row[GROUPS + 1] % TWO_TO_32) as u32,
-            saved: (row[GROUPS + 2] % TWO_TO_32) as u32,
+            real: low(row[GROUPS]),
+            effective: low(row[GROUPS + 1]),
+            saved: low(row[GROUPS + 2]),
         },
         supplementary: GroupList {
             count: row[SUPPLEMENTARY],
             ids: [
-                (row[SUPPLEMENTARY + 1] % TWO_TO_32) as u32,
-                (row[SUPPLEMENTARY + 2] % TWO_TO_32) as u32,
-                (row[SUPPLEMENTARY + 3] % TWO_TO_32) as u32,
-                (row[SUPPLEMENTARY + 4] % TWO_TO_32) as u32,
-                (row[SUPPLEMENTARY + 5] % TWO_TO_32) as u32,
-                (row[SUPPLEMENTARY + 6] % TWO_TO_32) as u32,
-                (row[SUPPLEMENTARY + 7] % TWO_TO_32) as u32,
-                (row[SUPPLEMENTARY + 8] % TWO_TO_32) as u32,
-                (row[SUPPLEMENTARY + 9] % TWO_TO_32) as u32,
-                (row[SUPPLEMENTARY + 10] % TWO_TO_32) as u32,
-                (row[SUPPLEMENTARY + 11] % TWO_TO_32) as u32,
-                (row[SUPPLEMENTARY + 12] % TWO_TO_32) as u32,
-                (row[SUPPLEMENTARY + 13] % TWO_TO_32) as u32,
-                (row[SUPPLEMENTARY + 14] % TWO_TO_32) as u32,
-                (row[SUPPLEMENTARY + 15] % TWO_TO_32) as u32,
-                (row[SUPPLEMENTARY + 16] % TWO_TO_32) as u32,
+                low(row[SUPPLEMENTARY + 1]),
+                low(row[SUPPLEMENTARY + 2]),
+                low(row[SUPPLEMENTARY + 3]),
+                low(row[SUPPLEMENTARY + 4]),
+                low(row[SUPPLEMENTARY + 5]),
+                low(row[SUPPLEMENTARY + 6]),
+                low(row[SUPPLEMENTARY + 7]),
+                low(row[SUPPLEMENTARY + 8]),
+                low(row[SUPPLEMENTARY + 9]),
+                low(row[SUPPLEMENTARY + 10]),
+                low(row[SUPPLEMENTARY + 11]),
+                low(row[SUPPLEMENTARY + 12]),
+                low(row[SUPPLEMENTARY + 13]),
+                low(row[SUPPLEMENTARY + 14]),
+                low(row[SUPPLEMENTARY + 15]),
+                low(row[SUPPLEMENTARY + 16]),
             ],
         },
         permitted: CapabilitySet {
@@ -80,11 +79,7 @@ fn read_process(row: &[u64]) -> Process
 fn group_words(ids: [u32; MAX_GROUPS]) -> [u64; MAX_GROUPS]
     ensures { result ≡ ids }
 {
-    let mut words = [0u64; MAX_GROUPS];
-    for i in 0..MAX_GROUPS {
-        words[i] = ids[i] as u64;
-    }
-    words
+    ids.map(|id| id as u64)
 }
 
 // The row of a record: the words that are read as it.
@@ -94,10 +89,9 @@ pub fn process_words(p: Process) -> [u64; PROCESS_WIDTH]
     let u = p.users;
     let g = p.groups;
     let s = p.supplementary;
-    let ids = s.ids;
-    let l = group_words(ids);
+    let l = group_words(s.ids);
     [
-        flag_word(p.live),
+        p.live as u64,
         p.namespace,
         u.real as u64,
         u.effective as u64,
@@ -143,6 +137,7 @@ pub fn free_process() -> Process
 }
 
 // The record that a row holds. A row of another length holds none.
+#[tactic(auto, unfolding(crate::specs::Records::process_from))]
 pub fn process_of(row: &[u64]) -> Process
     ensures { result ≡ process_from row.now }
 {
