@@ -8,20 +8,6 @@ use Rattle.idmap.specs.Text.{is_blank, is_digit}
 use Rattle.idmap.specs.Scan.{span, value, skipped, ended, number_at, field_at, line_end, scan_line}
 use Rattle.prelude.proofs.Tests.{cond_elim, both}
 
--- ---- is_blank, is_digit
-module _ (c : ℕ) where
-  pub blank_space : c ≡ 32 → eqb c 32 ≡ is_blank c
-  blank_space h = simp (eq-eqb c 32 h)
-
-  pub blank_tab : (c ≡ 32 → ⊥) → eqb c 9 ≡ is_blank c
-  blank_tab h = simp (ne_eqb c 32 h)
-
-  pub digit_high : 48 ≤ c → leb c 57 ≡ is_digit c
-  digit_high h = simp (le-leb 48 c h)
-
-  pub digit_low : c < 48 → leb 48 c ≡ is_digit c
-  digit_low h = simp (lt-leb 48 c h)
-
 -- ---- a span of bytes
 module _ (p : ℕ → Bool) (s : List ℕ) (i : ℕ) where
   span_step : i < length s → p (get_or s i 0) ≡ true → i + span p (drop i s) ≡ i + 1 + span p (drop (i + 1) s)
@@ -49,16 +35,6 @@ module _ (s : List ℕ) (at i : ℕ) (inv : skipped s at ≡ skipped s i) where
   pub skip_end : length s ≤ i → i ≡ skipped s at
   unfolding skipped
   skip_end h = sym (inv ∙ span_end is_blank s i h)
-
--- ---- made
-module _ (at e v : ℕ) (small : v ≤ no_id) where
-  pub made_none : e ≡ at → None ≡ ended at e v
-  unfolding ended
-  made_none h = simp (le-leb v no_id small, eq-eqb e at h)
-
-  pub made_some : (e ≡ at → ⊥) → Some (v, e) ≡ ended at e v
-  unfolding ended
-  made_some h = simp (le-leb v no_id small, ne_eqb e at h)
 
 -- ---- digits
 module _ (s : List ℕ) (v i : ℕ) where
@@ -95,12 +71,6 @@ module _ (c : ℕ) (t : Bool) (e : t ≡ is_digit c) (y : t ≡ true) where
       let h = both (leb 48 c) (leb c 57) (sym e ∙ y) in
       (leb-true 48 c h.0, leb-true c 57 h.1)
 
-  pub digit_least : 48 ≤ c
-  digit_least = digit_bounds.0
-
-  pub digit_fits : Fits w64 (c - 48)
-  digit_fits = let h = digit_bounds in omega arith
-
   pub digit_adds : (v : ℕ) → v ≤ no_id → Fits w64 (v * 10 + (c - 48))
   digit_adds v small = let h = digit_bounds in omega arith
 
@@ -123,42 +93,3 @@ module _ (s : List ℕ) (at v i : ℕ) (inv : number_at s at ≡ number_from s a
       let w = v * 10 + (get_or s i 0 - 48) in
       let k = value_le w (drop (i + 1) s) in
       sym (number_step t h e y ∙ rw (lt-leb (value w (drop (i + 1) s)) no_id (omega arith)))
-
--- ---- field
-pub field_is : (s : List ℕ) (at p : ℕ) (r : Option (ℕ × ℕ)) → p ≡ skipped s at → r ≡ number_at s p → r ≡ field_at s at
-unfolding field_at
-field_is s at p r e f = rw e at f
-
--- ---- line_end
-module _ (s : List ℕ) (e : ℕ) (l : Line) where
-  pub end_newline : e < length s → get_or s e 0 ≡ 10 → Some (l, e + 1) ≡ line_end s e l
-  unfolding line_end
-  end_newline h n = simp (lt-ltb e (length s) h, eq-eqb (get_or s e 0) 10 n)
-
-  pub end_other : e < length s → (get_or s e 0 ≡ 10 → ⊥) → None ≡ line_end s e l
-  unfolding line_end
-  end_other h n = simp (lt-ltb e (length s) h, ne_eqb (get_or s e 0) 10 n)
-
-  pub end_text : length s ≤ e → Some (l, e) ≡ line_end s e l
-  unfolding line_end
-  end_text h = simp (le-ltb e (length s) h)
-
--- ---- parse_line
-module _ (s : List ℕ) (r₁ : Option (ℕ × ℕ)) (f₁ : r₁ ≡ field_at s 0) where
-  pub line_no_first : r₁ ≡ None → None ≡ scan_line s
-  unfolding scan_line
-  line_no_first n = rw (sym f₁ ∙ n)
-
-  module _ (a p : ℕ) (v₁ : r₁ ≡ Some (a, p)) (r₂ : Option (ℕ × ℕ)) (f₂ : r₂ ≡ field_at s p) where
-    pub line_no_second : r₂ ≡ None → None ≡ scan_line s
-    unfolding scan_line
-    line_no_second n = rw (sym f₁ ∙ v₁, sym f₂ ∙ n)
-
-    module _ (b q : ℕ) (v₂ : r₂ ≡ Some (b, q)) (r₃ : Option (ℕ × ℕ)) (f₃ : r₃ ≡ field_at s q) where
-      pub line_no_third : r₃ ≡ None → None ≡ scan_line s
-      unfolding scan_line
-      line_no_third n = rw (sym f₁ ∙ v₁, sym f₂ ∙ v₂, sym f₃ ∙ n)
-
-      pub line_whole : (c e n : ℕ) (r : Option (Line × ℕ)) → r₃ ≡ Some (c, e) → n ≡ skipped s e → r ≡ line_end s n (record { inside = a; parent = b; count = c }) → r ≡ scan_line s
-      unfolding scan_line
-      line_whole c e n r v₃ k m = rw (sym f₁ ∙ v₁, sym f₂ ∙ v₂, sym f₃ ∙ v₃, ← k) m

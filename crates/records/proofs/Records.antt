@@ -23,10 +23,10 @@ use Rattle.records.specs.declared.IdMap.{IdMap}
 use Rattle.records.specs.declared.Namespace.{Namespace}
 use Rattle.records.specs.declared.Ids.{Ids}
 use Rattle.records.specs.declared.Process.{Process}
-use Rattle.records.specs.Records.{flag_word, low_at, starts_in, starts_of, starts_from, no_starts, unmapped, ids_at, max_groups, process_width, free_process, process_of, process_from, state_of, state_tag, state_count, first_line_at, map_width, map_at, map_of, map_from, free_map, deny_at, namespace_width, namespace_of, namespace_from, free_namespace}
+use Rattle.records.specs.Records.{low_at, starts_in, starts_of, starts_from, no_starts, unmapped, ids_at, max_groups, process_width, free_process, process_of, process_from, state_of, first_line_at, map_width, map_at, map_of, map_from, free_map, deny_at, namespace_width, namespace_of, namespace_from, free_namespace}
 
 -- a flag is read from its word
-flag_round : (b : Bool) → eqb (bool_byte b) 1 ≡ b
+pub flag_round : (b : Bool) → eqb (bool_byte b) 1 ≡ b
 flag_round true = refl
 flag_round false = refl
 

@@ -15,9 +15,6 @@ use Rattle.records.specs.declared.Process.{Process}
 use Rattle.records.specs.declared.IdMap.{IdMap}
 use Rattle.records.specs.declared.Namespace.{Namespace}
 
-abbrev pub flag_word : Bool → ℕ
-flag_word b = cond b 1 0
-
 abbrev pub low_of : ℕ → ℕ
 low_of w = w % 2 ^ 32
 

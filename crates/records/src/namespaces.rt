@@ -2,7 +2,7 @@
 ghost use Rattle.std.specs.Prelude.{◌≡◌, ◌+◌, ◌*◌, ◌<◌, length};
 ghost use Rattle.idmap.specs.Good.{max_lines};
 ghost use Rattle.idmap.specs.Line.{line_words, inside_column, parent_column, kernel_column, line_of, line_at};
-ghost use Rattle.records.specs.Records.{low_at, starts_in, starts_from, Cleared, unmapped, state_of, state_tag, state_count, first_line_at, map_width, map_at, map_of, map_from, LinesOf, free_map, free_namespace, namespace_width, namespace_of, namespace_from};
+ghost use Rattle.records.specs.Records.{low_at, starts_in, starts_from, Cleared, unmapped, state_of, first_line_at, map_width, map_at, map_of, map_from, LinesOf, free_map, free_namespace, namespace_width, namespace_of, namespace_from};
 
 use crate::{IdMap, Kind, Namespace};
 use idmap::{LINE_WORDS, Line, MAX_LINES, NO_LINE, low};

@@ -1,30 +1,29 @@
 -- Promises: of a call that refuses, and of one that does not. Assumes nothing.
-use Rattle.std.specs.Prelude.{Option, Some, None}
+use Rattle.std.specs.Prelude.{Option, Some, None, Ok, Err}
 use Prim.Native.Nat.{ℕ, ◌+◌, ◌<◌}
-use mathlib.Core.Path.{◌≡◌, refl, sym, ◌∙◌}
+use mathlib.Core.Path.{◌≡◌, refl, sym, ap, ◌∙◌}
 use mathlib.Core.Bool.{Bool, false, false≢true}
 use mathlib.Core.List.{List, [], ◌∷◌}
 use native.Mathlib.Omega.{arith}
 use lib.ListN.{length}
+use Rattle.std.proofs.lemmas.Option.{some_pair_parts}
 use Rattle.prelude.proofs.Tests.{by_test}
 use Rattle.records.specs.declared.Process.{Process}
 use Rattle.records.specs.declared.Namespace.{Namespace}
 use Rattle.tables.specs.declared.answer.Errno.{Errno}
 use Rattle.tables.specs.declared.answer.Answer.{Answer}
-use Rattle.tables.specs.declared.answer.Answer.TheVariants.{Refused}
-use Rattle.tables.specs.declared.find.Free.TheVariants.{Place, Full}
 use Rattle.tables.specs.Tables.{process_places, namespace_places, tables_of}
 use Rattle.tables.specs.Find.{free_from, free_process_place, free_namespace_place, free_as}
-use Rattle.tables.specs.Reply.{number_of, reply_of, Outcome, refuse, is_refused, Promise}
+use Rattle.tables.specs.Reply.{number_of, answered, Outcome, refuse, is_refused, Promise}
 use Rattle.tables.proofs.Tables.{length_processes, length_namespaces}
 
 -- a refusal: nothing is stored
-pub refuses : (e : Errno) (l : List ℕ) (o : Outcome) → refuse (tables_of l) (number_of e) ≡ o → Promise (Refused e) l l o
+pub refuses : (e : Errno) (l : List ℕ) (o : Outcome) → refuse (tables_of l) (number_of e) ≡ o → Promise (Err e) l l o
 refuses e l o q = record { outcome = q; kept = λ t. refl }
 
--- any other answer
-pub answers : (r : Answer) (l l' : List ℕ) (o : Outcome) → is_refused (reply_of r) ≡ false → ◌≡◌ {A = Outcome} (record { reply = reply_of r; tables = tables_of l' }) o → Promise r l l' o
-answers r l l' o n q = record { outcome = q; kept = λ t. absurd (false≢true (sym n ∙ t)) }
+-- an answer
+pub answers : (a : Answer) (l l' : List ℕ) (o : Outcome) → is_refused (answered a) ≡ false → ◌≡◌ {A = Outcome} (record { reply = answered a; tables = tables_of l' }) o → Promise (Ok a) l l' o
+answers a l l' o n q = record { outcome = q; kept = λ t. absurd (false≢true (sym n ∙ t)) }
 
 -- ---- a place that is found free lies in its table
 free_below : {A : Type 0} (live : A → Bool) (k i : ℕ) (l : List A) → free_from live k l ≡ Some i → i < k + length l
@@ -51,10 +50,10 @@ free_namespace_below l i e =
 
 -- ---- what is free, as the code is told, with its number
 module _ (number : ℕ → ℕ) where
-  pub none_free : (f : Option ℕ) → Full ≡ free_as number f → f ≡ None
+  pub none_free : (f : Option ℕ) → None ≡ free_as number f → f ≡ None
   none_free None e = refl
   none_free (Some i) e = let z : ◌≡◌ {A = ℕ} 0 1 = cc in absurd (omega arith)
 
-  pub free_at : (f : Option ℕ) (i n : ℕ) → Place i n ≡ free_as number f → (f ≡ Some i) × (n ≡ number i)
+  pub free_at : (f : Option ℕ) (i n : ℕ) → Some (i, n) ≡ free_as number f → (f ≡ Some i) × (n ≡ number i)
   free_at None i n e = let z : ◌≡◌ {A = ℕ} 0 1 = cc in absurd (omega arith)
-  free_at (Some j) i n e = let a : i ≡ j = cc in let b : n ≡ number j = cc in (rw a, rw a b)
+  free_at (Some j) i n e = let p = some_pair_parts i j n (number j) e in (ap Some (sym p.0), p.1 ∙ ap number (sym p.0))

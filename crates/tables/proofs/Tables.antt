@@ -8,7 +8,7 @@ use native.Mathlib.Omega.{arith}
 use lib.Dec.{eqb}
 use lib.ListN.{length, get_or, take, drop, set, replicate}
 use lib.Seq.{get_or-take, get_or-drop}
-use mir.Val.{Fits}
+use mir.Val.{Fits, bool_byte}
 use mir.Syntax.{w64}
 use borrow.Author.Rules.{rules}
 use Rattle.prelude.specs.Parts.{part, put_at}
@@ -20,7 +20,7 @@ use Rattle.records.specs.declared.Kind.TheVariants.{User, Group}
 use Rattle.records.specs.declared.Process.{Process}
 use Rattle.records.specs.declared.IdMap.{IdMap}
 use Rattle.records.specs.declared.Namespace.{Namespace}
-use Rattle.records.specs.Records.{flag_word, process_width, process_of, process_from, free_process, map_width, map_at, map_of, deny_at, namespace_width, namespace_of, namespace_from, free_namespace, with_map, with_deny, starts_in, starts_of, no_starts, Cleared}
+use Rattle.records.specs.Records.{process_width, process_of, process_from, free_process, map_width, map_at, map_of, deny_at, namespace_width, namespace_of, namespace_from, free_namespace, with_map, with_deny, starts_in, starts_of, no_starts, Cleared}
 use Rattle.records.proofs.Records.{flag_round, process_whole, namespace_whole}
 use Rattle.tables.specs.Tables.{State, process_places, namespace_places, processes_at, namespaces_at, tables_width, tables_of, process_at, namespace_at, starts_by, put_process, put_namespace, put_map, clear_starts}
 
@@ -246,7 +246,7 @@ module _ (l l' ws : List ℕ) (i k : ℕ) (long : length l ≡ tables_width) (h 
       (state (processes_kept Group a p at w m ys r c) (stored_maps Group a p at w m ys r c) (other_starts Group a p at w m ys r c User (inr (omega arith))) (stored_starts Group a p at w m ys r c))
 
   -- the setting
-  pub deny_put : (v : ℕ) (d : Bool) → ws ≡ v ∷ [] → v ≡ flag_word d → k ≡ row + deny_at → tables_of l' ≡ put_namespace (tables_of l) i (with_deny (namespace_at (tables_of l) i) d)
+  pub deny_put : (v : ℕ) (d : Bool) → ws ≡ v ∷ [] → v ≡ bool_byte d → k ≡ row + deny_at → tables_of l' ≡ put_namespace (tables_of l) i (with_deny (namespace_at (tables_of l) i) d)
   unfolding tables_of
   deny_put v d one flag at =
       let word : eqb v 1 ≡ d = ap (λ (x : ℕ). eqb x 1) flag ∙ flag_round d in

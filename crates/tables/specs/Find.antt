@@ -2,8 +2,6 @@
 use Rattle.std.specs.Prelude.{ℕ, suc, ◌-◌, Bool, cond, List, [], ◌∷◌, eqb, Option, Some, None}
 use Rattle.records.specs.declared.Process.{Process}
 use Rattle.records.specs.declared.Namespace.{Namespace}
-use Rattle.tables.specs.declared.find.Free.{Free}
-use Rattle.tables.specs.declared.find.Free.TheVariants.{Place, Full}
 use Rattle.tables.specs.Tables.{State, process_at, namespace_at}
 
 -- document 01: processes are numbered from 1, namespaces from 0: the number of what stands in place i
@@ -38,6 +36,6 @@ unfoldable pub free_namespace_place : State → Option ℕ
 free_namespace_place s = free_from (λ (n : Namespace). n.live) 0 s.namespaces
 
 -- a free place with its number, as the code answers it
-abbrev pub free_as : (ℕ → ℕ) → Option ℕ → Free
-free_as number (Some i) = Place i (number i)
-free_as number None = Full
+abbrev pub free_as : (ℕ → ℕ) → Option ℕ → Option (ℕ × ℕ)
+free_as number (Some i) = Some (i, number i)
+free_as number None = None

@@ -1,9 +1,10 @@
 -- The answers of document 01, by number and value. Assumes nothing.
-use Rattle.std.specs.Prelude.{ℕ, ◌≡◌, Bool, true, false, cond, List, Option, Some, None}
+use Rattle.std.specs.Prelude.{ℕ, ◌≡◌, Bool, true, false, cond, List, Option, Some, None, ◌∷◌, take, Result, Ok, Err}
 use Rattle.tables.specs.declared.answer.Errno.{Errno}
 use Rattle.tables.specs.declared.answer.Errno.TheVariants.{EPERM, ESRCH, EAGAIN, EINVAL, ENOSPC, ERANGE, EUSERS}
 use Rattle.tables.specs.declared.answer.Answer.{Answer}
-use Rattle.tables.specs.declared.answer.Answer.TheVariants.{Refused, Done, Child, ChildIn, NewNamespace, Yes, No, Length, Id, Unmapped}
+use Rattle.tables.specs.declared.answer.Answer.TheVariants.{Done, Child, ChildIn, NewNamespace, Yes, No, Length, Id, Unmapped, Own}
+use Rattle.tables.specs.declared.answer.OwnIds.{OwnIds}
 use Rattle.tables.specs.Tables.{State, tables_of}
 
 pub data Reply : Type 0 where
@@ -30,17 +31,28 @@ number_of ENOSPC = 28
 number_of ERANGE = 34
 number_of EUSERS = 87
 
-abbrev pub reply_of : Answer → Reply
-reply_of (Refused e) = refused (number_of e)
-reply_of Done = done
-reply_of (Child p) = child p
-reply_of (ChildIn p n) = child_in p n
-reply_of (NewNamespace n) = new_namespace n
-reply_of Yes = yes'
-reply_of No = no'
-reply_of (Length n) = bytes n
-reply_of (Id x) = id x
-reply_of Unmapped = unmapped
+-- a process's own IDs: real, effective and saved user ID, the same of the group, then the groups in order
+abbrev pub ids_list : OwnIds → List ℕ
+ids_list o =
+    o.users.real ∷ o.users.effective ∷ o.users.saved ∷ o.groups.real ∷ o.groups.effective ∷ o.groups.saved
+    ∷ take o.supplementary.count o.supplementary.ids
+
+-- an answer, and what a call answers or refuses
+abbrev pub answered : Answer → Reply
+answered Done = done
+answered (Child p) = child p
+answered (ChildIn p n) = child_in p n
+answered (NewNamespace n) = new_namespace n
+answered Yes = yes'
+answered No = no'
+answered (Length n) = bytes n
+answered (Id x) = id x
+answered Unmapped = unmapped
+answered (Own o) = ids (ids_list o)
+
+abbrev pub reply_of : Result Answer Errno → Reply
+reply_of (Ok a) = answered a
+reply_of (Err e) = refused (number_of e)
 
 -- what a call answers, and the tables that it leaves
 pub record Outcome : Type 0 where
@@ -66,7 +78,7 @@ is_refused (ids l) = false
 
 -- what a call that may store promises: its answer and the tables are the outcome's, and a refusal leaves every word of
 -- the lent array as it was
-pub record Promise (r : Answer) (entry exit : List ℕ) (o : Outcome) : Type 0 where
+pub record Promise (r : Result Answer Errno) (entry exit : List ℕ) (o : Outcome) : Type 0 where
   pub outcome : ◌≡◌ {A = Outcome} (record { reply = reply_of r; tables = tables_of exit }) o
   pub kept : is_refused (reply_of r) ≡ true → exit ≡ entry
 

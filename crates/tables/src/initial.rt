@@ -8,7 +8,7 @@ use crate::{NAMESPACE_PLACES, PROCESS_PLACES, Tables};
 use capability::CapabilitySet;
 use idmap::{Line, MAX_LINES, NO_ID, NO_LINE};
 use records::processes::free_process;
-use records::{IdMap, Kind, MapState, NO_GROUPS, Process, ZERO_IDS};
+use records::{IdMap, Kind, NO_GROUPS, Process, ZERO_IDS};
 
 fn first_process() -> Process
     ensures { result ≡ first_process }
@@ -33,7 +33,7 @@ fn fixed_map() -> IdMap
         count: NO_ID,
     };
     IdMap {
-        state: MapState::Written(1),
+        state: Some(1),
         lines: [fixed, NO_LINE, NO_LINE, NO_LINE, NO_LINE],
     }
 }
@@ -42,12 +42,10 @@ fn fixed_map() -> IdMap
 fn fill_processes(t: &mut Tables)
     ensures { tables_of t.new ≡ with_processes (tables_of t.old) initial_tables.processes }
 {
-    let free = free_process();
-    let mut places = [free; PROCESS_PLACES];
+    let mut places = [free_process(); PROCESS_PLACES];
     places[0] = first_process();
     for i in 0..PROCESS_PLACES {
-        let p = places[i];
-        process_put(t, i, p);
+        process_put(t, i, places[i]);
     }
 }
 

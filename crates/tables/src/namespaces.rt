@@ -9,7 +9,6 @@ use records::namespaces::{
     DENY, MAP_WIDTH, NAMESPACE_WIDTH, free_namespace, lines_of, map_at, map_words, namespace_of,
     unmapped_words,
 };
-use records::words::flag_word;
 use records::{IdMap, Kind, Namespace};
 
 // The namespace in a place of the table. A place past the end has none.
@@ -36,8 +35,11 @@ pub fn namespace_put(t: &mut Tables, place: usize, parent: u64, level: u64, owne
     ensures { tables_of t.new ≡ clear_starts (put_namespace (tables_of t.old) place (unmapped parent level owner deny)) place }
 {
     if place < NAMESPACE_PLACES {
-        let row = unmapped_words(parent, level, owner, deny);
-        rows::put(t, row_at(place), &row);
+        rows::put(
+            t,
+            row_at(place),
+            &unmapped_words(parent, level, owner, deny),
+        );
     }
 }
 
@@ -46,8 +48,7 @@ pub fn namespace_clear(t: &mut Tables, place: usize)
     ensures { tables_of t.new ≡ clear_starts (put_namespace (tables_of t.old) place free_namespace) place }
 {
     if place < NAMESPACE_PLACES {
-        let row: [u64; NAMESPACE_WIDTH] = [0; NAMESPACE_WIDTH];
-        rows::put(t, row_at(place), &row);
+        rows::put(t, row_at(place), &[0; NAMESPACE_WIDTH]);
     }
 }
 
@@ -56,8 +57,7 @@ pub fn map_put(t: &mut Tables, place: usize, kind: Kind, map: IdMap, kernel: [u3
     ensures { tables_of t.new ≡ put_map (tables_of t.old) kind place map kernel }
 {
     if place < NAMESPACE_PLACES {
-        let words = map_words(map, kernel);
-        rows::put(t, row_at(place) + map_at(kind), &words);
+        rows::put(t, row_at(place) + map_at(kind), &map_words(map, kernel));
     }
 }
 
@@ -66,8 +66,7 @@ pub fn deny_put(t: &mut Tables, place: usize, deny: bool)
     ensures { tables_of t.new ≡ put_namespace (tables_of t.old) place (with_deny (namespace_at (tables_of t.old) place) deny) }
 {
     if place < NAMESPACE_PLACES {
-        let word = [flag_word(deny)];
-        rows::put(t, row_at(place) + DENY, &word);
+        rows::put(t, row_at(place) + DENY, &[deny as u64]);
     }
 }
 

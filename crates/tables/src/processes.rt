@@ -22,7 +22,6 @@ pub fn process_put(t: &mut Tables, place: usize, p: Process)
     ensures { tables_of t.new ≡ put_process (tables_of t.old) place p }
 {
     if place < PROCESS_PLACES {
-        let row = process_words(p);
-        rows::put(t, PROCESSES_AT + place * PROCESS_WIDTH, &row);
+        rows::put(t, PROCESSES_AT + place * PROCESS_WIDTH, &process_words(p));
     }
 }
