@@ -8,57 +8,42 @@ use tables::namespaces::namespace_at;
 use tables::{MAX_LEVEL, Tables};
 
 // How many steps lead from a namespace to the initial one, as many as there are levels at most.
+#[tactic(auto, unfolding(crate::specs::Walks::height_of))]
 fn height(t: &Tables, place: u64) -> u64
     ensures { result ≡ height_of (tables_of t.now) place }
 {
-    let n = namespace_at(t, place as usize);
-    if n.level < MAX_LEVEL {
-        n.level
-    } else {
-        MAX_LEVEL
-    }
+    namespace_at(t, place as usize).level.min(MAX_LEVEL)
 }
 
 // Whether the namespace's parent is `own` and its owner `euid`.
+#[tactic(auto, unfolding(crate::specs::Walks::owned_by))]
 fn owned(n: Namespace, own: u64, euid: u32) -> bool
     ensures { result ≡ owned_by own euid n }
 {
-    if n.parent == own {
-        n.owner == euid
-    } else {
-        false
-    }
+    n.parent == own && n.owner == euid
 }
 
 // Whether a process holds a capability in a namespace. Linux: ns_capable.
 pub fn capable(t: &Tables, p: Process, place: u64, capability: u32) -> bool
     ensures { result ≡ capable_in (tables_of t.now) p place capability }
 {
-    let own = p.namespace;
-    let ids = p.users;
-    let euid = ids.effective;
-    let set = p.effective;
-    let mine = set.has(capability);
-    let mut left = height(t, place);
+    let turns = height(t, place) + 1;
     let mut at = place;
-    loop {
+    for _ in 0..turns {
         // At the process's own namespace: its effective set decides.
-        if at == own {
-            break mine;
+        if at == p.namespace {
+            return p.effective.has(capability);
         }
         // At the initial namespace with neither: no.
         if at == 0 {
-            break false;
+            return false;
         }
         // At a namespace whose parent is the process's own and whose owner is its effective user: yes.
         let n = namespace_at(t, at as usize);
-        if owned(n, own, euid) {
-            break true;
-        }
-        if left == 0 {
-            break false;
+        if owned(n, p.namespace, p.users.effective) {
+            return true;
         }
         at = n.parent;
-        left -= 1;
     }
+    false
 }

@@ -4,25 +4,22 @@ ghost use Rattle.tables.specs.Tables.{tables_of};
 ghost use Rattle.hierarchy.specs.Walks.{itself};
 ghost use Rattle.hierarchy.specs.KernelStarts.{to_kernel, from_kernel};
 
+use idmap::NO_ID;
 use idmap::lookup::{lookup_inside, lookup_kernel};
-use idmap::{NO_ID, Translated};
 use records::Kind;
 use tables::Tables;
 use tables::namespaces::map_lines;
 
 // In the initial namespace each ID but 'no ID' stands for itself.
-fn itself(id: u32) -> Translated
+fn itself(id: u32) -> Option<u32>
     ensures { result ≡ itself id }
 {
-    if id == NO_ID {
-        Translated::Unmapped
-    } else {
-        Translated::Id(id)
-    }
+    if id == NO_ID { None } else { Some(id) }
 }
 
 // The kernel ID that an ID of a namespace stands for. Linux: make_kuid, make_kgid.
-pub fn to_kernel(t: &Tables, kind: Kind, place: u64, id: u32) -> Translated
+#[tactic(auto, unfolding(crate::specs::KernelStarts::to_kernel))]
+pub fn to_kernel(t: &Tables, kind: Kind, place: u64, id: u32) -> Option<u32>
     ensures { result ≡ to_kernel (tables_of t.now) kind place id }
 {
     if place == 0 {
@@ -32,7 +29,8 @@ pub fn to_kernel(t: &Tables, kind: Kind, place: u64, id: u32) -> Translated
 }
 
 // The ID of a namespace that stands for a kernel ID. Linux: from_kuid, from_kgid.
-pub fn from_kernel(t: &Tables, kind: Kind, place: u64, id: u32) -> Translated
+#[tactic(auto, unfolding(crate::specs::KernelStarts::from_kernel))]
+pub fn from_kernel(t: &Tables, kind: Kind, place: u64, id: u32) -> Option<u32>
     ensures { result ≡ from_kernel (tables_of t.now) kind place id }
 {
     if place == 0 {
