@@ -1,5 +1,5 @@
 -- Fork, clone, unshare and setns: document 01, 'The calls, and the order in which each refuses'. Assumes nothing.
-use Rattle.std.specs.Prelude.{ℕ, ◌+◌, Bool, true, false, ◌&&◌, leb, eqb, Option, Some, None}
+use Rattle.std.specs.Prelude.{ℕ, ◌+◌, Bool, true, false, ◌&&◌, leb, eqb, Option, Some, None, is_some}
 use Rattle.capability.specs.Sets.{cap_sys_admin, full_set}
 use Rattle.records.specs.declared.Kind.TheVariants.{User, Group}
 use Rattle.records.specs.declared.Process.{Process}
@@ -19,8 +19,7 @@ fork_of s c =
 
 -- ---- a new namespace
 abbrev pub is_mapped : Option ℕ → Bool
-is_mapped (Some x) = true
-is_mapped None = false
+is_mapped r = is_some r
 
 -- the effective user and group ID of process p have a translation into its own namespace
 unfoldable pub knows_itself : Translation → Process → Bool
