@@ -1,6 +1,2 @@
-pub mod IdChanges
 pub mod Filled
 pub mod GroupLists
-pub mod OwnIds
-pub mod Capability
-pub mod Translating

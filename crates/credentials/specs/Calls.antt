@@ -1,6 +1,6 @@
 -- ID changes, setgroups, own IDs, the capability question, drop and translate: document 01, 'The calls, and the order
 -- in which each refuses'. Assumes nothing.
-use Rattle.std.specs.Prelude.{ℕ, ◌-◌, Bool, true, false, cond, not, ◌&&◌, ◌||◌, List, [], ◌++◌, map, eqb, ltb, length, take, replicate, Option, Some, None}
+use Rattle.std.specs.Prelude.{ℕ, ◌-◌, Bool, true, false, cond, not, ◌&&◌, ◌||◌, List, [], ◌++◌, map, eqb, ltb, length, take, replicate, Option, Some, None, option_map, Result, Ok, Err}
 use Rattle.prelude.specs.Lists.{all_of}
 use Rattle.capability.specs.Sets.{cap_setgid, cap_last_cap, empty_set, is_within}
 use Rattle.idmap.specs.Good.{no_id}
@@ -14,12 +14,10 @@ use Rattle.records.specs.Records.{max_groups, zero_ids, no_groups, ids_in, set_i
 use Rattle.tables.specs.Tables.{State, process_at, namespace_at, put_process}
 use Rattle.tables.specs.Find.{caller_named, namespace_named}
 use Rattle.tables.specs.Reply.{Reply, refused, done, yes', no', id, unmapped, Outcome, refuse, on_found, when, unless}
+use Rattle.tables.specs.declared.answer.Errno.{Errno}
 use Rattle.tables.specs.declared.answer.Errno.TheVariants.{ESRCH}
+use Rattle.tables.specs.declared.answer.OwnIds.{OwnIds}
 use Rattle.hierarchy.specs.Walks.{Translation, capable_in}
-use Rattle.credentials.specs.declared.own.OwnIds.{OwnIds}
-use Rattle.credentials.specs.declared.own.OwnAnswer.TheVariants.{Told, NotTold}
-use Rattle.credentials.specs.declared.own.OwnResult.{OwnResult}
-use Rattle.credentials.specs.declared.groups.Listed.{Listed}
 use Rattle.credentials.specs.declared.translate.Way.{Way}
 use Rattle.credentials.specs.declared.translate.Way.TheVariants.{Out, Back}
 
@@ -96,10 +94,6 @@ set_ids_of by s kind c real effective saved =
     (record { reply = done; tables = put_process s i (with_ids by kind (process_at s i) (record { real = a; effective = b; saved = d })) })))
 
 -- ---- setgroups
-abbrev pub to_option : Option ℕ → Option ℕ
-to_option (Some x) = Some x
-to_option None = None
-
 -- groups in a list that has places for them
 unfoldable pub group_list : List ℕ → GroupList
 group_list ids = record { count = length ids; ids = ids ++ replicate (max_groups - length ids) 0 }
@@ -121,11 +115,11 @@ then_list (Some ids) other next = next ids
 
 -- the kernel IDs of groups given in a namespace, or none where one is not mapped
 unfoldable pub kernel_groups : Translation → ℕ → List ℕ → Option (List ℕ)
-kernel_groups by n list = all_of (λ (x : ℕ). to_option (by.out Group n x)) list
+kernel_groups by n list = all_of (by.out Group n) list
 
-abbrev pub listed_of : Option (List ℕ) → Listed
-listed_of None = record { mapped = false; groups = group_list [] }
-listed_of (Some ids) = record { mapped = true; groups = group_list ids }
+-- the same as the code's answer
+abbrev pub listed_of : Option (List ℕ) → Option GroupList
+listed_of r = option_map group_list r
 
 -- the new list replaces the old, in the order given, repeats kept
 unfoldable pub set_groups_of : Translation → State → ℕ → List ℕ → Outcome
@@ -178,20 +172,14 @@ seen_ids by kind n i = record { real = seen by kind n i.real; effective = seen b
 unfoldable pub seen_groups : Translation → ℕ → GroupList → GroupList
 seen_groups by n g = group_list (map (seen by Group n) (take g.count g.ids))
 
-abbrev pub no_own_ids : OwnIds
-no_own_ids = record { users = zero_ids; groups = zero_ids; supplementary = no_groups }
-
-unfoldable pub own_ids_of : Translation → State → ℕ → OwnResult
+unfoldable pub own_ids_of : Translation → State → ℕ → Result OwnIds Errno
 own_ids_of by s c =
-    on_found (caller_named s c) (record { answer = NotTold ESRCH; ids = no_own_ids }) (λ i.
-    record {
-      answer = Told;
-      ids = record {
-        users = seen_ids by User (process_at s i).namespace (process_at s i).users;
-        groups = seen_ids by Group (process_at s i).namespace (process_at s i).groups;
-        supplementary = seen_groups by (process_at s i).namespace (process_at s i).supplementary;
-      };
-    })
+    on_found (caller_named s c) (Err ESRCH) (λ i.
+    Ok (record {
+      users = seen_ids by User (process_at s i).namespace (process_at s i).users;
+      groups = seen_ids by Group (process_at s i).namespace (process_at s i).groups;
+      supplementary = seen_groups by (process_at s i).namespace (process_at s i).supplementary;
+    }))
 
 -- ---- translate, naming a namespace
 -- out: the kernel ID that an ID of namespace n stands for; back: the ID of namespace n that stands for a kernel ID

@@ -1,28 +1,29 @@
 // Changes of real, effective and saved IDs.
-ghost use Rattle.std.specs.Prelude.{◌≡◌, cond, ◌||◌};
+ghost use Rattle.std.specs.Prelude.{◌≡◌, cond};
 ghost use Rattle.capability.specs.Sets.{empty_set};
 ghost use Rattle.tables.specs.Tables.{tables_of};
 ghost use Rattle.tables.specs.Reply.{Promise};
 ghost use Rattle.hierarchy.specs.KernelStarts.{by_kernel_starts, quick};
-ghost use Rattle.credentials.specs.Calls.{chosen, is_one_of, all_one_of, loses_all, loses_effective, may_take, with_users, with_groups, with_ids, set_ids_of};
+ghost use Rattle.credentials.specs.Calls.{chosen, is_one_of, all_one_of, loses_all, loses_effective, may_take, with_users, with_ids, set_ids_of};
 
 use capability::CapabilitySet;
 use hierarchy::capable::capable;
 use hierarchy::translate::to_kernel;
-use idmap::{NO_ID, Translated};
+use idmap::NO_ID;
 use records::kinds::{ids_in, set_id};
 use records::{Ids, Kind, Process};
 use tables::Tables;
 use tables::answer::{Answer, Errno};
-use tables::find::{Found, find_caller};
+use tables::find::find_caller;
 use tables::processes::{process_at, process_put};
 
 // The kernel ID for an ID that is given: 4,294,967,295 leaves the old one.
-fn choose(t: &Tables, kind: Kind, namespace: u64, id: u32, old: u32) -> Translated
+#[tactic(auto, unfolding(hierarchy::specs::KernelStarts::by_kernel_starts))]
+fn choose(t: &Tables, kind: Kind, namespace: u64, id: u32, old: u32) -> Option<u32>
     ensures { result ≡ chosen (by_kernel_starts (tables_of t.now)) kind «namespace» id old }
 {
     if id == NO_ID {
-        Translated::Id(old)
+        Some(old)
     } else {
         to_kernel(t, kind, namespace, id)
     }
@@ -31,67 +32,28 @@ fn choose(t: &Tables, kind: Kind, namespace: u64, id: u32, old: u32) -> Translat
 fn one_of(id: u32, ids: Ids) -> bool
     ensures { result ≡ is_one_of id ids }
 {
-    if id == ids.real {
-        true
-    } else {
-        if id == ids.effective {
-            true
-        } else {
-            id == ids.saved
-        }
-    }
+    id == ids.real || id == ids.effective || id == ids.saved
 }
 
+#[tactic(auto, unfolding(crate::specs::Calls::all_one_of))]
 fn all_one_of(new: Ids, old: Ids) -> bool
     ensures { result ≡ all_one_of new old }
 {
-    if one_of(new.real, old) {
-        if one_of(new.effective, old) {
-            one_of(new.saved, old)
-        } else {
-            false
-        }
-    } else {
-        false
-    }
+    one_of(new.real, old) && one_of(new.effective, old) && one_of(new.saved, old)
 }
 
 // Whether the change takes the namespace's ID 0 from all three.
-fn loses_all(zero: Translated, old: Ids, new: Ids) -> bool
+fn loses_all(zero: Option<u32>, old: Ids, new: Ids) -> bool
     ensures { result ≡ loses_all zero old new }
 {
-    match zero {
-        Translated::Unmapped => false,
-        Translated::Id(z) => {
-            if one_of(z, old) {
-                if one_of(z, new) { false } else { true }
-            } else {
-                false
-            }
-        }
-    }
+    matches!(zero, Some(z) if one_of(z, old) && !one_of(z, new))
 }
 
 // Whether it takes ID 0 from the effective one.
-fn loses_effective(zero: Translated, old: Ids, new: Ids) -> bool
+fn loses_effective(zero: Option<u32>, old: Ids, new: Ids) -> bool
     ensures { result ≡ loses_effective zero old new }
 {
-    match zero {
-        Translated::Unmapped => false,
-        Translated::Id(z) => {
-            if z == old.effective {
-                if z == new.effective { false } else { true }
-            } else {
-                false
-            }
-        }
-    }
-}
-
-fn either(a: bool, b: bool) -> bool
-    ensures { result ≡ (a || b) }
-{
-    if a { true } else { b }
+    matches!(zero, Some(z) if z == old.effective && z != new.effective)
 }
 
 // A set, or the empty one where it is lost.
@@ -102,107 +64,66 @@ fn kept(set: CapabilitySet, lost: bool) -> CapabilitySet
 }
 
 // The process with new user IDs, and the sets that the change leaves it.
-fn with_users(zero: Translated, p: Process, new: Ids) -> Process
+#[tactic(auto, unfolding(crate::specs::Calls::with_users))]
+fn with_users(zero: Option<u32>, p: Process, new: Ids) -> Process
     ensures { result ≡ with_users zero p new }
 {
-    let old = p.users;
-    let groups = p.groups;
-    let supplementary = p.supplementary;
-    let permitted = p.permitted;
-    let effective = p.effective;
-    let all = loses_all(zero, old, new);
-    let lost = loses_effective(zero, old, new);
-    let kept_permitted = kept(permitted, all);
-    let kept_effective = kept(effective, either(all, lost));
+    let all = loses_all(zero, p.users, new);
+    let lost = loses_effective(zero, p.users, new);
     Process {
-        live: p.live,
-        namespace: p.namespace,
         users: new,
-        groups: groups,
-        supplementary: supplementary,
-        permitted: kept_permitted,
-        effective: kept_effective,
+        permitted: kept(p.permitted, all),
+        effective: kept(p.effective, all || lost),
+        ..p
     }
 }
 
-fn with_groups(p: Process, new: Ids) -> Process
-    ensures { result ≡ with_groups p new }
-{
-    let users = p.users;
-    let supplementary = p.supplementary;
-    let permitted = p.permitted;
-    let effective = p.effective;
-    Process {
-        live: p.live,
-        namespace: p.namespace,
-        users: users,
-        groups: new,
-        supplementary: supplementary,
-        permitted: permitted,
-        effective: effective,
-    }
-}
-
+#[tactic(auto, unfolding(crate::specs::Calls::with_groups, hierarchy::specs::KernelStarts::by_kernel_starts))]
 fn with_ids(t: &Tables, kind: Kind, p: Process, new: Ids) -> Process
     ensures { result ≡ with_ids (by_kernel_starts (tables_of t.now)) kind p new }
 {
     match kind {
         Kind::User => with_users(to_kernel(t, Kind::User, p.namespace, 0), p, new),
-        Kind::Group => with_groups(p, new),
+        Kind::Group => Process { groups: new, ..p },
     }
 }
 
 // Whether the caller may take these IDs.
+#[tactic(auto, unfolding(crate::specs::Calls::may_take))]
 fn permitted(t: &Tables, kind: Kind, p: Process, new: Ids, old: Ids) -> bool
     ensures { result ≡ may_take (tables_of t.now) kind p new old }
 {
-    if capable(t, p, p.namespace, set_id(kind)) {
-        true
-    } else {
-        all_one_of(new, old)
-    }
+    capable(t, p, p.namespace, set_id(kind)) || all_one_of(new, old)
 }
 
 // Sets the caller's real, effective and saved IDs of a kind. Refuses: 3 no caller; 22 an ID that is not mapped; 1
 // where, without SETUID (SETGID) in its own namespace, one is none of the present three.
 // Ruled out, for instance: sets kept when the effective ID 0 is given up; a saved ID that is none of the present three.
-pub fn set_ids(
-    t: &mut Tables,
-    kind: Kind,
-    caller: u64,
-    real: u32,
-    effective: u32,
-    saved: u32,
-) -> Answer
-    ensures { Promise result t.old t.new (quick set_ids_of (tables_of t.old) kind caller real effective saved) }
+#[tactic(auto, unfolding(crate::specs::Calls::set_ids_of))]
+pub fn set_ids(t: &mut Tables, kind: Kind, caller: u64, given: Ids) -> Result<Answer, Errno>
+    ensures { Promise result t.old t.new (quick set_ids_of (tables_of t.old) kind caller given.real given.effective given.saved) }
 {
     // First always: the caller must exist, else 3.
-    let Found::At(place) = find_caller(t, caller) else {
-        return Answer::Refused(Errno::ESRCH);
-    };
+    let place = find_caller(t, caller).ok_or(Errno::ESRCH)?;
     let p = process_at(t, place);
     let old = ids_in(kind, p);
     // 4,294,967,295 leaves the real ID as it is; 22 if another given one has no translation out.
-    let Translated::Id(a) = choose(t, kind, p.namespace, real, old.real) else {
-        return Answer::Refused(Errno::EINVAL);
-    };
+    let real = choose(t, kind, p.namespace, given.real, old.real).ok_or(Errno::EINVAL)?;
     // The effective ID alike.
-    let Translated::Id(b) = choose(t, kind, p.namespace, effective, old.effective) else {
-        return Answer::Refused(Errno::EINVAL);
-    };
+    let effective = choose(t, kind, p.namespace, given.effective, old.effective).ok_or(
+        Errno::EINVAL,
+    )?;
     // The saved ID alike.
-    let Translated::Id(d) = choose(t, kind, p.namespace, saved, old.saved) else {
-        return Answer::Refused(Errno::EINVAL);
-    };
+    let saved = choose(t, kind, p.namespace, given.saved, old.saved).ok_or(Errno::EINVAL)?;
     let new = Ids {
-        real: a,
-        effective: b,
-        saved: d,
+        real,
+        effective,
+        saved,
     };
     // 1 if, without SETUID (SETGID) in its own namespace, any is none of the caller's present three.
     if !permitted(t, kind, p, new, old) {
-        return Answer::Refused(Errno::EPERM);
+        return Err(Errno::EPERM);
     }
     process_put(t, place, with_ids(t, kind, p, new));
-    Answer::Done
+    Ok(Answer::Done)
 }

@@ -6,11 +6,10 @@ ghost use Rattle.hierarchy.specs.KernelStarts.{by_kernel_starts, quick};
 ghost use Rattle.credentials.specs.Calls.{turned, translate_reply};
 
 use hierarchy::translate::{from_kernel, to_kernel};
-use idmap::Translated;
 use records::Kind;
 use tables::Tables;
 use tables::answer::{Answer, Errno};
-use tables::find::{Found, find_caller, named_namespace};
+use tables::find::{find_caller, named_namespace};
 
 // Out: from a namespace's ID to its kernel ID. Back: from a kernel ID to the namespace's.
 #[derive(Clone, Copy)]
@@ -20,7 +19,8 @@ pub enum Way {
 }
 
 // An ID translated between the namespace at `place` and the initial one.
-fn turned(t: &Tables, kind: Kind, way: Way, place: u64, id: u32) -> Translated
+#[tactic(auto, unfolding(hierarchy::specs::KernelStarts::by_kernel_starts))]
+fn turned(t: &Tables, kind: Kind, way: Way, place: u64, id: u32) -> Option<u32>
     ensures { result ≡ turned (by_kernel_starts (tables_of t.now)) kind way place id }
 {
     match way {
@@ -32,21 +32,24 @@ fn turned(t: &Tables, kind: Kind, way: Way, place: u64, id: u32) -> Translated
 // The translation of an ID between a namespace and the initial one, or that it has none. Refuses: 3 no caller or no
 // such namespace.
 // Ruled out, for instance: the parent's ID instead of the kernel ID; a refusal of an ID that is not mapped.
-pub fn translate(t: &Tables, kind: Kind, way: Way, caller: u64, name: u64, id: u32) -> Answer
+#[tactic(auto, unfolding(crate::specs::Calls::translate_reply))]
+pub fn translate(
+    t: &Tables,
+    kind: Kind,
+    way: Way,
+    caller: u64,
+    name: u64,
+    id: u32,
+) -> Result<Answer, Errno>
     ensures { reply_of result ≡ quick translate_reply (tables_of t.now) kind way caller name id }
 {
     // First always: the caller must exist, else 3.
-    let Found::At(place) = find_caller(t, caller) else {
-        return Answer::Refused(Errno::ESRCH);
-    };
+    let place = find_caller(t, caller).ok_or(Errno::ESRCH)?;
     // Then the namespace named, else 3.
-    let Found::At(n) = named_namespace(t, place, name) else {
-        return Answer::Refused(Errno::ESRCH);
-    };
+    let n = named_namespace(t, place, name).ok_or(Errno::ESRCH)?;
     // An ID, or "unmapped", which is an answer.
-    let r = turned(t, kind, way, n as u64, id);
-    match r {
-        Translated::Id(x) => Answer::Id(x),
-        Translated::Unmapped => Answer::Unmapped,
+    match turned(t, kind, way, n as u64, id) {
+        Some(x) => Ok(Answer::Id(x)),
+        None => Ok(Answer::Unmapped),
     }
 }

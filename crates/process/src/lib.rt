@@ -49,7 +49,14 @@ fn make_namespace(t: &mut Tables, n: usize, p: Process, own: Namespace)
     requires { own.level < max_level }
     ensures { tables_of t.new ≡ with_namespace (tables_of t.old) n p own }
 {
-    namespace_put(t, n, p.namespace, own.level + 1, p.users.effective, own.deny);
+    namespace_put(
+        t,
+        n,
+        p.namespace,
+        own.level + 1,
+        p.users.effective,
+        own.deny,
+    );
 }
 
 // A process as a member of a namespace, with both sets full.
