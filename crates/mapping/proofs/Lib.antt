@@ -1,4 +1,4 @@
+pub mod Kept
+pub mod Settings
 pub mod Writes
 pub mod Reading
-pub mod Settings
-pub mod Kept

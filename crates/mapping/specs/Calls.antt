@@ -17,8 +17,6 @@ use Rattle.records.specs.Records.{ids_in, map_in, set_id_of, is_written, lines_o
 use Rattle.tables.specs.Tables.{State, process_at, namespace_at, put_namespace, put_map}
 use Rattle.tables.specs.Find.{caller_named, process_named}
 use Rattle.tables.specs.Reply.{Reply, refused, done, bytes, Outcome, refuse, on_found, when, unless}
-use Rattle.mapping.specs.declared.setgroups.Setting.{Setting}
-use Rattle.mapping.specs.declared.setgroups.Setting.TheVariants.{Deny, Allow, Neither}
 use Rattle.hierarchy.specs.Walks.{Translation, capable_in}
 use Rattle.hierarchy.specs.KernelStarts.{kernel_starts}
 
@@ -110,12 +108,6 @@ is_word text word = same_bytes text word || same_bytes text (word ++ (10 ∷ [])
 -- what a text sets: deny, allow, or nothing where it is neither
 unfoldable pub setting_in : List ℕ → Option Bool
 setting_in text = cond (is_word text deny_text) (Some true) (cond (is_word text allow_text) (Some false) None)
-
--- the same as the code's answer
-abbrev pub setting_of : Option Bool → Setting
-setting_of None = Neither
-setting_of (Some true) = Deny
-setting_of (Some false) = Allow
 
 abbrev pub then_setting : {A : Type 0} → Option Bool → A → A → A → A
 then_setting None other deny allow = other

@@ -1,5 +1,5 @@
 -- Promises: of a call that refuses, and of one that does not. Assumes nothing.
-use Rattle.std.specs.Prelude.{Option, Some, None, Ok, Err}
+use Rattle.std.specs.Prelude.{Option, Some, None, Result, Ok, Err, ok_or}
 use Prim.Native.Nat.{ℕ, ◌+◌, ◌<◌}
 use mathlib.Core.Path.{◌≡◌, refl, sym, ap, ◌∙◌}
 use mathlib.Core.Bool.{Bool, false, false≢true}
@@ -57,3 +57,19 @@ module _ (number : ℕ → ℕ) where
   pub free_at : (f : Option ℕ) (i n : ℕ) → Some (i, n) ≡ free_as number f → (f ≡ Some i) × (n ≡ number i)
   free_at None i n e = let z : ◌≡◌ {A = ℕ} 0 1 = cc in absurd (omega arith)
   free_at (Some j) i n e = let p = some_pair_parts i j n (number j) e in (ap Some (sym p.0), p.1 ∙ ap number (sym p.0))
+
+-- ---- `o.ok_or(e)?`: what o is where the code goes on, and where it refuses
+module _ {A : Type 0} (o : Option A) (e : Errno) (r : Result A Errno) (given : r ≡ ok_or o e) where
+  pub ok_given : (x : A) → r ≡ Ok x → o ≡ Some x
+  ok_given x q = by_cases o (sym given ∙ q)
+    where
+      by_cases : (p : Option A) → ok_or p e ≡ Ok x → p ≡ Some x
+      by_cases None h = absurd (let z : ◌≡◌ {A = ℕ} 0 1 = cc in omega arith)
+      by_cases (Some y) h = let same : y ≡ x = cc in ap Some same
+
+  pub err_given : (d : Errno) → r ≡ Err d → (o ≡ None) × (d ≡ e)
+  err_given d q = by_cases o (sym given ∙ q)
+    where
+      by_cases : (p : Option A) → ok_or p e ≡ Err d → (p ≡ None) × (d ≡ e)
+      by_cases None h = (refl, let same : e ≡ d = cc in sym same)
+      by_cases (Some y) h = absurd (let z : ◌≡◌ {A = ℕ} 0 1 = cc in omega arith)

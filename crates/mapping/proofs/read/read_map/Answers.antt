@@ -1,26 +1,24 @@
 -- `mapping::read::read_map` meets its contract. Assumes nothing.
-use Rattle.prelude.proofs.Made.{length_mapped}
-use Rattle.std.proofs.Common.{arith, rules}
-use Rattle.mapping.proofs.Reading.{reading, map_short, map_read}
+use Rattle.std.proofs.Common.{◌≡◌, Some, ◌∙◌, sym, arith, rules}
+use Rattle.tables.specs.Tables.{tables_of}
+use Rattle.tables.specs.Find.{caller_named, process_named}
+use Rattle.tables.proofs.Promises.{ok_given}
+use Rattle.mapping.specs.Calls.{read_map_of}
+use Rattle.mapping.proofs.Reading.{map_short, map_read}
 use Rattle.mapping.proofs.read.read_map.Goals as goal
 
-pub returns-in_default : goal.returns-in_default
-returns-in_default c = search reading
-
-pub returns-in_default-named_process : goal.returns-in_default-named_process
-returns-in_default-named_process c = search reading
-
 pub returns-then-buffer-count : goal.returns-then-buffer-count
+unfolding read_map_of
 returns-then-buffer-count c =
-    map_short _ _ _ _ _ _ _ c.find_caller.ensures _ c.in-At.is
-    _ c.named_process.ensures _ c.in-At-named_process.is _ c.process_at-p.ensures
-    _ c.namespace_at-target.ensures _ c.map_in-map.ensures (search (rules, length_mapped)) _ c.line_count-count.ensures
-    (omega (arith, c.if-buffer-count.true))
+    let caller : caller_named (tables_of c.args.t.now) c.args.caller ≡ Some c.in_ok-reader.reader = sym c.find_caller.ensures ∙ ok_given _ _ _ c.ok_or.ensures.value _ c.in_ok-reader.was in
+    let named : process_named (tables_of c.args.t.now) c.in_ok-reader.reader c.args.name ≡ Some c.in_ok-place.place = sym c.named_process.ensures ∙ ok_given _ _ _ c.ok_or-2.ensures.value _ c.in_ok-place.was in
+    rw (caller, named, ← c.process_at-n.ensures)
+    (map_short _ _ _ _ _ _ (c.map_in-map.ensures ∙ rw c.namespace_at.ensures) (search rules) _ c.line_count-count.ensures _ c.if-buffer-count.true)
 
 pub returns : goal.returns
+unfolding read_map_of
 returns c =
-    map_read _ _ _ _ _ _ _ c.find_caller.ensures _ c.in-At.is
-    _ c.named_process.ensures _ c.in-At-named_process.is _ c.process_at-p.ensures
-    _ c.namespace_at-target.ensures _ c.map_in-map.ensures (search (rules, length_mapped))
-    _ c.line_count-count.ensures _ _ _ c.process_at-r.ensures
-    c.if-buffer-count.false c.view-v.ensures c.put_lines.ensures
+    let caller : caller_named (tables_of c.args.t.now) c.args.caller ≡ Some c.in_ok-reader.reader = sym c.find_caller.ensures ∙ ok_given _ _ _ c.ok_or.ensures.value _ c.in_ok-reader.was in
+    let named : process_named (tables_of c.args.t.now) c.in_ok-reader.reader c.args.name ≡ Some c.in_ok-place.place = sym c.named_process.ensures ∙ ok_given _ _ _ c.ok_or-2.ensures.value _ c.in_ok-place.was in
+    rw (caller, named, ← c.process_at-n.ensures, ← c.process_at-r.ensures, ← c.view.ensures)
+    (map_read _ _ _ _ _ _ (c.map_in-map.ensures ∙ rw c.namespace_at.ensures) (search rules) _ c.line_count-count.ensures _ _ (omega arith) c.put_lines.ensures)
