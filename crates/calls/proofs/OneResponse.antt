@@ -1,19 +1,19 @@
 -- What the entry point promises pins its whole response: two responses with that promise are one. Assumes nothing.
 use Prim.Native.Nat.{ℕ}
-use mathlib.Core.Path.{◌≡◌, refl, sym, ap, ◌∙◌}
+use Rattle.std.specs.Prelude.{Result, Ok, Err}
+use mathlib.Core.Path.{◌≡◌, refl, sym, ap, ap₂, ◌∙◌}
 use mathlib.Core.Bool.{cond}
 use mathlib.Core.List.{List, [], ◌∷◌}
 use lib.Dec.{eqb}
 use Rattle.tables.specs.declared.answer.Errno.{Errno}
 use Rattle.tables.specs.declared.answer.Errno.TheVariants.{EPERM, ESRCH, EAGAIN, EINVAL, ENOSPC, ERANGE, EUSERS}
 use Rattle.tables.specs.declared.answer.Answer.{Answer}
-use Rattle.tables.specs.declared.answer.Answer.TheVariants.{Refused, Done, Child, ChildIn, NewNamespace, Yes, No, Length, Id, Unmapped}
-use Rattle.tables.specs.Reply.{Reply, refused, done, child, child_in, new_namespace, yes', no', bytes, ids, id, unmapped, number_of, reply_of}
+use Rattle.tables.specs.declared.answer.Answer.TheVariants.{Done, Child, ChildIn, NewNamespace, Yes, No, Length, Id, Unmapped}
+use Rattle.tables.specs.Reply.{Reply, refused, done, child, child_in, new_namespace, yes', no', bytes, ids, id, unmapped, number_of}
 use Rattle.credentials.specs.declared.own.OwnIds.{OwnIds}
-use Rattle.calls.specs.Calls.{Step, reply_beside, call_reply, CallPromise}
-use Rattle.calls.specs.declared.CallAnswer.{CallAnswer}
-use Rattle.calls.specs.declared.CallAnswer.TheVariants.{Plain, Own}
+use Rattle.calls.specs.Calls.{Step, call_reply, ids_held, CallPromise}
 use Rattle.calls.specs.declared.Response.{Response}
+use Rattle.calls.specs.declared.Response.TheVariants.{Plain, Own}
 
 -- the refusal that has a number
 with_number : ℕ → List Errno → Errno
@@ -33,40 +33,36 @@ errno_back ENOSPC = refl
 errno_back ERANGE = refl
 errno_back EUSERS = refl
 
--- the answer that has a reply
-answer_of : Reply → CallAnswer
-answer_of (refused e) = Plain (Refused (errno_of e))
-answer_of done = Plain Done
-answer_of (child p) = Plain (Child p)
-answer_of (child_in p n) = Plain (ChildIn p n)
-answer_of (new_namespace n) = Plain (NewNamespace n)
-answer_of yes' = Plain Yes
-answer_of no' = Plain No
-answer_of (bytes n) = Plain (Length n)
-answer_of (id x) = Plain (Id x)
-answer_of unmapped = Plain Unmapped
-answer_of (ids l) = Own
+-- the response that has a reply, with the IDs that it holds
+response_of : Reply → OwnIds → Result Response Errno
+response_of (refused e) o = Err (errno_of e)
+response_of done o = Ok (Plain Done)
+response_of (child p) o = Ok (Plain (Child p))
+response_of (child_in p n) o = Ok (Plain (ChildIn p n))
+response_of (new_namespace n) o = Ok (Plain (NewNamespace n))
+response_of yes' o = Ok (Plain Yes)
+response_of no' o = Ok (Plain No)
+response_of (bytes n) o = Ok (Plain (Length n))
+response_of (id x) o = Ok (Plain (Id x))
+response_of unmapped o = Ok (Plain Unmapped)
+response_of (ids l) o = Ok (Own o)
 
-plain_back : (a : Answer) → answer_of (reply_of a) ≡ Plain a
-unfolding answer_of
-plain_back (Refused e) = ap (λ (x : Errno). Plain (Refused x)) (errno_back e)
-plain_back Done = refl
-plain_back (Child p) = refl
-plain_back (ChildIn p n) = refl
-plain_back (NewNamespace n) = refl
-plain_back Yes = refl
-plain_back No = refl
-plain_back (Length n) = refl
-plain_back (Id x) = refl
-plain_back Unmapped = refl
+response_back : (r : Result Response Errno) → response_of (call_reply r) (ids_held r) ≡ r
+unfolding response_of
+response_back (Err e) = ap Err (errno_back e)
+response_back (Ok (Own o)) = refl
+response_back (Ok (Plain Done)) = refl
+response_back (Ok (Plain (Child p))) = refl
+response_back (Ok (Plain (ChildIn p n))) = refl
+response_back (Ok (Plain (NewNamespace n))) = refl
+response_back (Ok (Plain Yes)) = refl
+response_back (Ok (Plain No)) = refl
+response_back (Ok (Plain (Length n))) = refl
+response_back (Ok (Plain (Id x))) = refl
+response_back (Ok (Plain Unmapped)) = refl
 
-answer_back : (a : CallAnswer) (o : OwnIds) → answer_of (reply_beside a o) ≡ a
-unfolding answer_of
-answer_back (Plain a) o = plain_back a
-answer_back Own o = refl
-
-pub one_response : (r r' : Response) (entry exit exit' after after' : List ℕ) (step : Step) → CallPromise r entry exit after step → CallPromise r' entry exit' after' step → r ≡ r'
+pub one_response : (r r' : Result Response Errno) (entry exit exit' after after' : List ℕ) (step : Step) → CallPromise r entry exit after step → CallPromise r' entry exit' after' step → r ≡ r'
 one_response r r' entry exit exit' after after' step p q =
     let e : call_reply r ≡ call_reply r' = ap (λ (s : Step). s.reply) (p.outcome ∙ sym q.outcome) in
-    let f : r.answer ≡ r'.answer = sym (answer_back r.answer r.ids) ∙ ap answer_of e ∙ answer_back r'.answer r'.ids in
-    λ i. record { answer = f i; ids = (p.whole ∙ sym q.whole) i }
+    let o : ids_held r ≡ ids_held r' = p.whole ∙ sym q.whole in
+    sym (response_back r) ∙ ap₂ response_of e o ∙ response_back r'

@@ -1,21 +1,18 @@
 -- Every call of document 01 with all that is lent to it, and what it answers. Assumes nothing.
-use Rattle.std.specs.Prelude.{ℕ, ◌≡◌, true, List, [], get_or, drop}
+use Rattle.std.specs.Prelude.{ℕ, ◌≡◌, true, List, [], get_or, drop, Result, Ok, Err}
+use Rattle.tables.specs.declared.answer.Errno.{Errno}
 use Rattle.tables.specs.declared.answer.Answer.{Answer}
-use Rattle.tables.specs.declared.answer.Answer.TheVariants.{Refused}
+use Rattle.records.specs.Records.{zero_ids, no_groups}
 use Rattle.tables.specs.Tables.{State, tables_of}
-use Rattle.tables.specs.Reply.{Reply, refused, done, child, child_in, new_namespace, yes', no', bytes, ids, id, unmapped, reply_of, Outcome, is_refused}
+use Rattle.tables.specs.Reply.{Reply, refused, done, child, child_in, new_namespace, yes', no', bytes, ids, id, unmapped, number_of, answered, Outcome, is_refused}
 use Rattle.hierarchy.specs.Walks.{Translation}
 use Rattle.process.specs.Calls.{fork_of, clone_of, unshare_of, setns_of}
 use Rattle.mapping.specs.Calls.{ReadOutcome, write_map_of, write_setgroups_of, read_map_of, read_setgroups_of}
 use Rattle.credentials.specs.declared.own.OwnIds.{OwnIds}
-use Rattle.credentials.specs.declared.own.OwnAnswer.{OwnAnswer}
-use Rattle.credentials.specs.declared.own.OwnAnswer.TheVariants.{Told, NotTold}
-use Rattle.credentials.specs.declared.own.OwnResult.{OwnResult}
-use Rattle.credentials.specs.Calls.{set_ids_of, group_list, set_groups_of, capable_reply, drop_of, no_own_ids, own_ids_of, translate_reply}
+use Rattle.credentials.specs.Calls.{set_ids_of, group_list, set_groups_of, capable_reply, drop_of, own_ids_of, translate_reply}
 use Rattle.credentials.specs.OwnReply.{ids_list, own_reply}
-use Rattle.calls.specs.declared.CallAnswer.{CallAnswer}
-use Rattle.calls.specs.declared.CallAnswer.TheVariants.{Plain, Own}
 use Rattle.calls.specs.declared.Response.{Response}
+use Rattle.calls.specs.declared.Response.TheVariants.{Plain, Own}
 use Rattle.calls.specs.declared.Call.{Call}
 use Rattle.calls.specs.declared.Call.TheVariants.{Fork, Clone, Unshare, Setns, WriteMap, WriteSetgroups, ReadMap, ReadSetgroups, SetIds, SetGroups, Capable, Drop, OwnIdsOf, Translate}
 
@@ -33,23 +30,31 @@ pub record Step : Type 0 where
   pub buffer : List ℕ
 
 -- the reply that a response is
-abbrev pub reply_beside : CallAnswer → OwnIds → Reply
-reply_beside (Plain a) o = reply_of a
-reply_beside Own o = ids (ids_list o)
+abbrev pub response_reply : Response → Reply
+response_reply (Plain a) = answered a
+response_reply (Own o) = ids (ids_list o)
 
-abbrev pub call_reply : Response → Reply
-call_reply r = reply_beside r.answer r.ids
+abbrev pub call_reply : Result Response Errno → Reply
+call_reply (Ok r) = response_reply r
+call_reply (Err e) = refused (number_of e)
 
 -- an answer that has no IDs beside it, and the response of the own-ID question
-abbrev pub plain_of : Answer → Response
-plain_of a = record { answer = Plain a; ids = no_own_ids }
+abbrev pub plain_of : Result Answer Errno → Result Response Errno
+plain_of (Ok a) = Ok (Plain a)
+plain_of (Err e) = Err e
 
-abbrev pub own_by : OwnAnswer → OwnIds → Response
-own_by Told o = record { answer = Own; ids = o }
-own_by (NotTold e) o = record { answer = Plain (Refused e); ids = o }
+abbrev pub own_of : Result OwnIds Errno → Result Response Errno
+own_of (Ok o) = Ok (Own o)
+own_of (Err e) = Err e
 
-abbrev pub own_of : OwnResult → Response
-own_of r = own_by r.answer r.ids
+-- the IDs that a response holds: none but the own ones, and where it holds none they are 0
+abbrev pub no_own_ids : OwnIds
+no_own_ids = record { users = zero_ids; groups = zero_ids; supplementary = no_groups }
+
+abbrev pub ids_held : Result Response Errno → OwnIds
+ids_held (Ok (Own o)) = o
+ids_held (Ok (Plain a)) = no_own_ids
+ids_held (Err e) = no_own_ids
 
 -- the IDs that a reply lists
 abbrev pub listed_in : Reply → List ℕ
@@ -105,7 +110,7 @@ answer_of by s r = answer_by by s r.call r.text r.list r.buffer
 -- what the entry point promises of its response r: its answer, the tables and the buffer are the step's, the response
 -- holds no other IDs than that answer's, and a refusal leaves every word of the lent array as it was. `one_response` of
 -- proofs/OneResponse.antt: it is one value
-pub record CallPromise (r : Response) (entry exit after : List ℕ) (step : Step) : Type 0 where
+pub record CallPromise (r : Result Response Errno) (entry exit after : List ℕ) (step : Step) : Type 0 where
   pub outcome : ◌≡◌ {A = Step} (record { reply = call_reply r; tables = tables_of exit; buffer = after }) step
-  pub whole : r.ids ≡ listed_ids step.reply
+  pub whole : ids_held r ≡ listed_ids step.reply
   pub kept : is_refused (call_reply r) ≡ true → exit ≡ entry

@@ -6,11 +6,11 @@ ghost use Rattle.std.specs.Prelude.{◌≡◌};
 ghost use Rattle.hierarchy.specs.KernelStarts.{quick};
 ghost use Rattle.calls.specs.Calls.{plain_of, own_of, answer_by, CallPromise};
 
-use credentials::own::{NO_OWN_IDS, OwnAnswer, OwnIds, OwnResult};
+use credentials::own::OwnIds;
 use credentials::translate::Way;
 use records::{Ids, Kind};
 use tables::Tables;
-use tables::answer::Answer;
+use tables::answer::{Answer, Errno};
 
 // A call, as numbers; the text, the list and the buffer that some of them take are lent beside it.
 #[derive(Clone, Copy)]
@@ -31,52 +31,36 @@ pub enum Call {
     Translate(Kind, Way, u64, u64, u32),
 }
 
-// An answer, or that the caller's own IDs are told.
+// What a call answers where it does not refuse: an answer, or the caller's own IDs.
 #[derive(Clone, Copy)]
-pub enum CallAnswer {
+pub enum Response {
     Plain(Answer),
-    Own,
-}
-
-// What a call answers, and the own IDs beside it; where none are told they are 0.
-#[derive(Clone, Copy)]
-pub struct Response {
-    pub answer: CallAnswer,
-    pub ids: OwnIds,
+    Own(OwnIds),
 }
 
 // An answer that has no IDs beside it.
-fn plain(answer: Answer) -> Response
+fn plain(answer: Result<Answer, Errno>) -> Result<Response, Errno>
     ensures { result ≡ plain_of answer }
 {
-    let none = NO_OWN_IDS;
-    Response {
-        answer: CallAnswer::Plain(answer),
-        ids: none,
-    }
+    Ok(Response::Plain(answer?))
 }
 
 // What the own-ID question answers.
-fn own(res: OwnResult) -> Response
-    ensures { result ≡ own_of res }
+fn own(ids: Result<OwnIds, Errno>) -> Result<Response, Errno>
+    ensures { result ≡ own_of ids }
 {
-    let answer = res.answer;
-    let ids = res.ids;
-    match answer {
-        OwnAnswer::Told => Response {
-            answer: CallAnswer::Own,
-            ids: ids,
-        },
-        OwnAnswer::NotTold(e) => Response {
-            answer: CallAnswer::Plain(Answer::Refused(e)),
-            ids: ids,
-        },
-    }
+    Ok(Response::Own(ids?))
 }
 
 // Answers a call: the promise is by cases the calls' own.
 // Ruled out, for instance: IDs beside an answer that has none; a clone made where unshare is asked for.
-pub fn answer(t: &mut Tables, c: Call, text: &[u8], list: &[u32], buffer: &mut [u8]) -> Response
+pub fn answer(
+    t: &mut Tables,
+    c: Call,
+    text: &[u8],
+    list: &[u32],
+    buffer: &mut [u8],
+) -> Result<Response, Errno>
     ensures { CallPromise result t.old t.new buffer.new (quick answer_by (tables_of t.old) c text.now list.now buffer.old) }
 {
     match c {
@@ -96,14 +80,7 @@ pub fn answer(t: &mut Tables, c: Call, text: &[u8], list: &[u32], buffer: &mut [
         Call::ReadSetgroups(caller, name) => plain(mapping::read::read_setgroups(
             t, caller, name, buffer,
         )),
-        Call::SetIds(kind, caller, ids) => plain(credentials::ids::set_ids(
-            t,
-            kind,
-            caller,
-            ids.real,
-            ids.effective,
-            ids.saved,
-        )),
+        Call::SetIds(kind, caller, ids) => plain(credentials::ids::set_ids(t, kind, caller, ids)),
         Call::SetGroups(caller) => plain(credentials::groups::setgroups(t, caller, list)),
         Call::Capable(caller, name, number) => plain(credentials::capability_calls::ask(
             t, caller, name, number,

@@ -16,7 +16,7 @@ use Rattle.tables.specs.Find.{caller_named, namespace_named}
 use Rattle.tables.specs.Reply.{Reply, refused, done, yes', no', id, unmapped, Outcome, refuse, on_found, when, unless}
 use Rattle.tables.specs.declared.answer.Errno.{Errno}
 use Rattle.tables.specs.declared.answer.Errno.TheVariants.{ESRCH}
-use Rattle.tables.specs.declared.answer.OwnIds.{OwnIds}
+use Rattle.credentials.specs.declared.own.OwnIds.{OwnIds}
 use Rattle.hierarchy.specs.Walks.{Translation, capable_in}
 use Rattle.credentials.specs.declared.translate.Way.{Way}
 use Rattle.credentials.specs.declared.translate.Way.TheVariants.{Out, Back}

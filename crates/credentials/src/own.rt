@@ -8,9 +8,17 @@ use hierarchy::translate::from_kernel;
 use idmap::OVERFLOW_ID;
 use records::{GroupList, Ids, Kind, MAX_GROUPS};
 use tables::Tables;
-use tables::answer::{Errno, OwnIds};
+use tables::answer::Errno;
 use tables::find::find_caller;
 use tables::processes::process_at;
+
+// A process's own IDs, as seen in its namespace.
+#[derive(Clone, Copy)]
+pub struct OwnIds {
+    pub users: Ids,
+    pub groups: Ids,
+    pub supplementary: GroupList,
+}
 
 // A kernel ID as a namespace sees it.
 #[tactic(auto, unfolding(hierarchy::specs::KernelStarts::by_kernel_starts))]

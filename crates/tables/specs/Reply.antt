@@ -3,8 +3,7 @@ use Rattle.std.specs.Prelude.{ℕ, ◌≡◌, Bool, true, false, cond, List, Opt
 use Rattle.tables.specs.declared.answer.Errno.{Errno}
 use Rattle.tables.specs.declared.answer.Errno.TheVariants.{EPERM, ESRCH, EAGAIN, EINVAL, ENOSPC, ERANGE, EUSERS}
 use Rattle.tables.specs.declared.answer.Answer.{Answer}
-use Rattle.tables.specs.declared.answer.Answer.TheVariants.{Done, Child, ChildIn, NewNamespace, Yes, No, Length, Id, Unmapped, Own}
-use Rattle.tables.specs.declared.answer.OwnIds.{OwnIds}
+use Rattle.tables.specs.declared.answer.Answer.TheVariants.{Done, Child, ChildIn, NewNamespace, Yes, No, Length, Id, Unmapped}
 use Rattle.tables.specs.Tables.{State, tables_of}
 
 pub data Reply : Type 0 where
@@ -31,12 +30,6 @@ number_of ENOSPC = 28
 number_of ERANGE = 34
 number_of EUSERS = 87
 
--- a process's own IDs: real, effective and saved user ID, the same of the group, then the groups in order
-abbrev pub ids_list : OwnIds → List ℕ
-ids_list o =
-    o.users.real ∷ o.users.effective ∷ o.users.saved ∷ o.groups.real ∷ o.groups.effective ∷ o.groups.saved
-    ∷ take o.supplementary.count o.supplementary.ids
-
 -- an answer, and what a call answers or refuses
 abbrev pub answered : Answer → Reply
 answered Done = done
@@ -48,7 +41,6 @@ answered No = no'
 answered (Length n) = bytes n
 answered (Id x) = id x
 answered Unmapped = unmapped
-answered (Own o) = ids (ids_list o)
 
 abbrev pub reply_of : Result Answer Errno → Reply
 reply_of (Ok a) = answered a

@@ -1,6 +1,5 @@
-// What a call answers: document 01's answers, and its refusals under Linux' names.
-use records::{GroupList, Ids};
-
+// What a call answers: document 01's answers but a process's own IDs, which have a type of their own, and its refusals
+// under Linux' names.
 // The refusals, with their numbers.
 #[derive(Clone, Copy)]
 pub enum Errno {
@@ -13,15 +12,7 @@ pub enum Errno {
     EUSERS = 87,
 }
 
-// A process's own IDs, as seen in its namespace.
-#[derive(Clone, Copy)]
-pub struct OwnIds {
-    pub users: Ids,
-    pub groups: Ids,
-    pub supplementary: GroupList,
-}
-
-// A call answers one of these, or refuses.
+// What a call answers where it does not refuse.
 #[derive(Clone, Copy)]
 pub enum Answer {
     Done,
@@ -34,5 +25,4 @@ pub enum Answer {
     // A translation: an ID, or that it has none.
     Id(u32),
     Unmapped,
-    Own(OwnIds),
 }
