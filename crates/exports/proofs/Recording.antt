@@ -3,14 +3,11 @@ use Prim.Native.Nat.{ℕ}
 use mathlib.Core.Path.{◌≡◌, sym, ◌∙◌}
 use mathlib.Core.List.{List}
 use borrow.Author.Rules.{rules}
+use Rattle.std.specs.Prelude.{Option, Some, None, Result, Err}
 use Rattle.tables.specs.declared.answer.Errno.{Errno}
 use Rattle.tables.specs.declared.answer.Errno.TheVariants.{EINVAL}
 use Rattle.tables.specs.Reply.{number_of}
 use Rattle.calls.specs.declared.Call.{Call}
-use Rattle.journal.specs.declared.layout.Template.{Template}
-use Rattle.journal.specs.declared.layout.Template.TheVariants.{Of, Unknown}
-use Rattle.journal.specs.declared.write.Written.{Written}
-use Rattle.journal.specs.declared.write.Written.TheVariants.{Refused}
 use Rattle.journal.specs.Layout.{template_of, call_by}
 use Rattle.journal.specs.Journal.{write_of, buffer_by}
 use Rattle.exports.specs.Codes.{negated}
@@ -20,23 +17,23 @@ use Rattle.exports.specs.Journal.{written_code, write_by, buffer_after}
 pub call_known : (c d r : Call) (a b : List ℕ) → c ≡ d → r ≡ call_by d a b → r ≡ call_by c a b
 call_known c d r a b e p = rw e p
 
-pub written_refused : (w : Written) (e : Errno) (n : ℕ) → w ≡ Refused e → n ≡ negated (number_of e) → n ≡ written_code w
+pub written_refused : (w : Result ℕ Errno) (e : Errno) (n : ℕ) → w ≡ Err e → n ≡ negated (number_of e) → n ≡ written_code w
 written_refused w e n p q = rw p q
 
 -- the call of a call byte
-module _ (byte : ℕ) (t : Template) (e : t ≡ template_of byte) (a b text list : List ℕ) (n : ℕ) (buffer : List ℕ) (at : ℕ) where
-  module _ (d c : Call) (p : t ≡ Of d) (q : c ≡ call_by d a b) where
-    of_byte : template_of byte ≡ Of d
+module _ (byte : ℕ) (t : Option Call) (e : t ≡ template_of byte) (a b text list : List ℕ) (n : ℕ) (buffer : List ℕ) (at : ℕ) where
+  module _ (d c : Call) (p : t ≡ Some d) (q : c ≡ call_by d a b) where
+    of_byte : template_of byte ≡ Some d
     of_byte = sym e ∙ p
 
-    pub record_answer : (w : Written) (r : ℕ) → w ≡ write_of c text list n buffer at → r ≡ written_code w → r ≡ written_code (write_by (template_of byte) a b text list n buffer at)
+    pub record_answer : (w : Result ℕ Errno) (r : ℕ) → w ≡ write_of c text list n buffer at → r ≡ written_code w → r ≡ written_code (write_by (template_of byte) a b text list n buffer at)
     record_answer w r h k = rw (of_byte, ← q, ← h) k
 
     pub record_bytes : (after : List ℕ) → after ≡ buffer_by c text list n (write_of c text list n buffer at) buffer at → after ≡ buffer_after (template_of byte) a b text list n buffer at
     record_bytes after h = rw (of_byte, ← q) h
 
-  module _ (p : t ≡ Unknown) where
-    no_byte : template_of byte ≡ Unknown
+  module _ (p : t ≡ None) where
+    no_byte : template_of byte ≡ None
     no_byte = sym e ∙ p
 
     pub unknown_answer : (r : ℕ) → r ≡ negated (number_of EINVAL) → r ≡ written_code (write_by (template_of byte) a b text list n buffer at)

@@ -5,6 +5,7 @@ use mathlib.Core.List.{List, [], ◌∷◌, ◌++◌}
 use native.Mathlib.Omega.{arith}
 use lib.ListN.{length, get_or, take, replicate}
 use borrow.Author.Rules.{rules}
+use Rattle.std.specs.Prelude.{Some, None, Ok, Err}
 use Rattle.prelude.specs.Parts.{put_at}
 use Rattle.prelude.specs.Lists.{tab}
 use Rattle.prelude.proofs.Made.{tab_same}
@@ -19,11 +20,10 @@ use Rattle.calls.specs.declared.CallAnswer.{CallAnswer}
 use Rattle.calls.specs.declared.CallAnswer.TheVariants.{Plain, Own}
 use Rattle.calls.specs.declared.Response.{Response}
 use Rattle.calls.specs.Calls.{Step, reply_beside, call_reply, listed_ids, CallPromise}
-use Rattle.journal.specs.declared.read.Stop.{Stop}
+use Rattle.journal.specs.declared.read.Stopped.{Stopped}
 use Rattle.journal.specs.declared.read.Record.{Record}
-use Rattle.journal.specs.declared.read.Read.{Read}
-use Rattle.journal.specs.declared.read.Read.TheVariants.{Found, End, Stopped}
 use Rattle.journal.specs.Layout.{byte_of, names_of, numbers_of, first_three}
+use Rattle.journal.specs.Reading.{Read}
 use Rattle.exports.specs.Codes.{code_of, space_after, ids_row, own_width}
 use Rattle.exports.specs.Replay.{stop_number, found_words, plain_words, read_words, ids_after, response_code, response_ids, CodedStep}
 
@@ -34,14 +34,14 @@ pub found_is : (r : Record) (namespace byte : ℕ) (names numbers : List ℕ) �
 found_is r namespace byte names numbers p q s = rw (p, q, s)
 
 module _ (read : Read) (at namespace : ℕ) (w : List ℕ) where
-  pub words_found : (r : Record) → read ≡ Found r → w ≡ found_words r namespace → w ≡ read_words read at namespace
+  pub words_found : (r : Record) → read ≡ Ok (Some r) → w ≡ found_words r namespace → w ≡ read_words read at namespace
   words_found r e p = rw e p
 
-  pub words_end : read ≡ End → w ≡ plain_words 0 at → w ≡ read_words read at namespace
+  pub words_end : read ≡ Ok None → w ≡ plain_words 0 at → w ≡ read_words read at namespace
   words_end e p = rw e p
 
-  pub words_stopped : (o n : ℕ) (why : Stop) → read ≡ Stopped o why → n ≡ stop_number why → w ≡ plain_words n o → w ≡ read_words read at namespace
-  words_stopped o n why e q p = rw e (p ∙ ap (λ (x : ℕ). plain_words x o) q)
+  pub words_stopped : (n : ℕ) (stop : Stopped) → read ≡ Err stop → n ≡ stop_number stop.why → w ≡ plain_words n stop.at → w ≡ read_words read at namespace
+  words_stopped n stop e q p = rw e (p ∙ ap (λ (x : ℕ). plain_words x stop.at) q)
 
 pub ruleset wording = (found_is, words_found, words_end, words_stopped, rules)
 

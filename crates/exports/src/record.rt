@@ -5,8 +5,6 @@ ghost use Rattle.exports.specs.Journal.{written_code, write_by, buffer_after};
 
 use crate::refusal;
 use calls::Call;
-use journal::layout::Template;
-use journal::write::Written;
 use records::Ids;
 use tables::answer::Errno;
 
@@ -42,18 +40,20 @@ fn call_by(d: Call, names: &[u64; 3], numbers: &[u32; 3]) -> Call
 }
 
 // The bytes of a record, or the number of a refusal, negated.
-fn bytes(w: Written) -> u64
+#[tactic(auto, using(crate::proofs::Recording::recording))]
+fn bytes(w: Result<usize, Errno>) -> u64
     ensures { result ≡ written_code w }
 {
     match w {
-        Written::Length(n) => n as u64,
-        Written::Refused(e) => refusal(e),
+        Ok(n) => n as u64,
+        Err(e) => refusal(e),
     }
 }
 
 // Writes the record of the call that has this call byte into a buffer from a place on. Its names, the caller first, and
 // its other numbers stand in order in the two arrays; of a read the buffer's length stands beside them. What the call
 // does not have is not looked at.
+#[tactic(auto, using(crate::proofs::Recording::recording))]
 pub fn oarhatchet_write_record(
     call: u8,
     names: &[u64; 3],
@@ -68,10 +68,10 @@ pub fn oarhatchet_write_record(
     ensures bytes { buffer.new ≡ buffer_after (template_of call) names.now numbers.now text.now list.now length buffer.old at }
 {
     match journal::layout::template_of(call) {
-        Template::Of(d) => {
+        Some(d) => {
             let c = call_by(d, names, numbers);
             bytes(journal::write::write_record(c, text, list, length, buffer, at))
         }
-        Template::Unknown => refusal(Errno::EINVAL),
+        None => refusal(Errno::EINVAL),
     }
 }

@@ -5,12 +5,11 @@ use mathlib.Core.List.{List, [], ◌∷◌}
 use borrow.Author.Tests.{ne_eqb}
 use native.Mathlib.Omega.{arith}
 use borrow.Author.Rules.{rules}
+use Rattle.std.specs.Prelude.{Option, None}
 use Rattle.records.specs.declared.Kind.{Kind}
 use Rattle.credentials.specs.declared.translate.Way.{Way}
 use Rattle.calls.specs.declared.Call.{Call}
 use Rattle.calls.specs.declared.Call.TheVariants.{Fork, Clone, Unshare, Setns, WriteMap, WriteSetgroups, ReadMap, ReadSetgroups, SetIds, SetGroups, Capable, Drop, OwnIdsOf, Translate}
-use Rattle.journal.specs.declared.layout.Template.{Template}
-use Rattle.journal.specs.declared.layout.Template.TheVariants.{Unknown}
 use Rattle.journal.specs.declared.layout.Form.{Form}
 use Rattle.journal.specs.Layout.{by_kind, by_way, byte_of, templates, with_byte, template_of, form_of, fixed_bytes, names_of, numbers_of, first_three}
 
@@ -75,7 +74,7 @@ module _ (c d : Call) (e : c ≡ d) where
 pub translate_known : (k : Kind) (w v : Way) (r b : ℕ) → w ≡ v → r ≡ b → b ≡ by_kind k (by_way v 0x41 0x42) (by_way v 0x43 0x44) → r ≡ by_kind k (by_way w 0x41 0x42) (by_way w 0x43 0x44)
 translate_known k w v r b e p q = rw e (p ∙ q)
 
-pub template_known : (b n : ℕ) (r : Template) → b ≡ n → r ≡ template_of n → r ≡ template_of b
+pub template_known : (b n : ℕ) (r : Option Call) → b ≡ n → r ≡ template_of n → r ≡ template_of b
 template_known b n r e q = rw e q
 
 -- the bytes of which a byte is none, as a match has them where none of its arms is taken
@@ -83,12 +82,12 @@ abbrev pub NoneFrom : Type 0 → ℕ → List Call → Type 0
 NoneFrom T b [] = T
 NoneFrom T b (c ∷ cs) = NoneFrom (T × (b ≡ byte_of c → ⊥)) b cs
 
-none_with : (T : Type 0) (b : ℕ) (cs : List Call) → NoneFrom T b cs → (Unknown ≡ with_byte b cs) × T
+none_with : (T : Type 0) (b : ℕ) (cs : List Call) → NoneFrom T b cs → (None ≡ with_byte b cs) × T
 unfolding with_byte
 none_with T b [] h = (refl, h)
 none_with T b (c ∷ cs) h = let r = none_with (T × (b ≡ byte_of c → ⊥)) b cs h in (rw (ne_eqb b (byte_of c) r.1.1) r.0, r.1.0)
 
-pub template_none : (b : ℕ) → NoneFrom (Unit {0}) b templates → Unknown ≡ template_of b
+pub template_none : (b : ℕ) → NoneFrom (Unit {0}) b templates → None ≡ template_of b
 unfolding template_of
 template_none b h = (none_with (Unit {0}) b templates h).0
 

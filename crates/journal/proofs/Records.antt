@@ -8,6 +8,7 @@ use lib.Dec.{leb}
 use lib.ListN.{length, get_or, take, drop}
 use borrow.Author.Rules.{rules}
 use borrow.Author.Tests.{lt-ltb, le-ltb, le-leb, lt-leb, leb-true, eq-eqb, ne_eqb}
+use Rattle.std.specs.Prelude.{Option, Some, None, Ok}
 use Rattle.prelude.specs.Parts.{part}
 use Rattle.prelude.proofs.Parts.{part_range, length_part}
 use Rattle.records.specs.declared.Ids.{Ids}
@@ -16,14 +17,10 @@ use Rattle.calls.specs.declared.Call.TheVariants.{Fork, Clone, Unshare, Setns, W
 use Rattle.journal.specs.declared.layout.Lent.{Lent}
 use Rattle.journal.specs.declared.layout.Lent.TheVariants.{Nothing, Text, Groups, Buffer}
 use Rattle.journal.specs.declared.layout.Form.{Form}
-use Rattle.journal.specs.declared.layout.Template.{Template}
-use Rattle.journal.specs.declared.layout.Template.TheVariants.{Of, Unknown}
 use Rattle.journal.specs.declared.read.Stop.TheVariants.{Version, Cut, Short, UnknownCall, Leftover}
-use Rattle.journal.specs.declared.read.Read.{Read}
-use Rattle.journal.specs.declared.read.Read.TheVariants.{Found, End, Stopped}
 use Rattle.journal.specs.Numbers.{number_at}
 use Rattle.journal.specs.Layout.{version, template_of, form_by, form_of, fixed_bytes, call_by}
-use Rattle.journal.specs.Reading.{leftover, text_bytes, id_count, buffer_length, three_in, names_in, numbers_in, record_by, body_read, record_at, read_at}
+use Rattle.journal.specs.Reading.{Read, stopped_at, leftover, text_bytes, id_count, buffer_length, three_in, names_in, numbers_in, record_by, body_read, record_at, read_at}
 
 -- ---- by what is lent
 module _ (lent d : Lent) (rest : ℕ) (e : lent ≡ d) where
@@ -90,7 +87,7 @@ pub ruleset parts_of = (three_known, leftover_known, ids_known, buffer_none, buf
 
 -- ---- the record of a template
 module _ (at : ℕ) (body : List ℕ) (c : Call) (fixed : ℕ) (q : fixed ≡ fixed_bytes (form_of c)) where
-  pub record_short : length body < fixed → Stopped at Short ≡ record_by at body (Of c)
+  pub record_short : length body < fixed → stopped_at at Short ≡ record_by at body (Some c)
   unfolding record_by
   record_short h = rw (lt-ltb (length body) (fixed_bytes (form_of c)) (omega arith))
 
@@ -101,14 +98,14 @@ module _ (at : ℕ) (body : List ℕ) (c : Call) (fixed : ℕ) (q : fixed ≡ fi
     left_is : leftover (form_of c).lent (length body - fixed_bytes (form_of c)) ≡ over
     left_is = rw (← q, ← e) (sym o)
 
-    pub record_left : over ≡ true → Stopped at Leftover ≡ record_by at body (Of c)
+    pub record_left : over ≡ true → stopped_at at Leftover ≡ record_by at body (Some c)
     unfolding record_by
     record_left t = rw (le-ltb (length body) (fixed_bytes (form_of c)) (omega arith), left_is, t)
 
     pub record_found : (call : Call) (n text ids : ℕ) → over ≡ false → call ≡ call_by c (names_in c body) (numbers_in c body)
         → n ≡ buffer_length (form_of c).lent (numbers_in c body) → text ≡ text_bytes f.lent (length body - fixed)
         → ids ≡ id_count f.lent (length body - fixed)
-        → ◌≡◌ {A = Read} (Found (record { call = call; tail = at + 2 + fixed; text = text; ids = ids; buffer = n; next = at + 2 + length body })) (record_by at body (Of c))
+        → ◌≡◌ {A = Read} (Ok (Some (record { call = call; tail = at + 2 + fixed; text = text; ids = ids; buffer = n; next = at + 2 + length body }))) (record_by at body (Some c))
     unfolding record_by
     record_found call n text ids t cc₁ nn tt₁ ii =
         rw (le-ltb (length body) (fixed_bytes (form_of c)) (omega arith), left_is, t, cc₁, nn, tt₁, ii, e, q)
@@ -117,12 +114,12 @@ pub ruleset records = (record_short, record_room, record_left, record_found, rul
 
 -- ---- the record at an offset
 module _ (l : List ℕ) (at : ℕ) where
-  pub at_end : length l ≤ at → End ≡ record_at l at
+  pub at_end : length l ≤ at → Ok None ≡ record_at l at
   unfolding record_at
   at_end h = rw (le-leb (length l) at h)
 
   module _ (h : at < length l) where
-    pub at_cut : length l - at < 2 → Stopped at Cut ≡ record_at l at
+    pub at_cut : length l - at < 2 → stopped_at at Cut ≡ record_at l at
     unfolding record_at
     at_cut k = rw (lt-leb (length l) at h, lt-ltb (length l - at) 2 k)
 
@@ -130,12 +127,12 @@ module _ (l : List ℕ) (at : ℕ) where
     size_room k = omega arith
 
     module _ (k : 2 ≤ length l - at) (size : ℕ) (e : size ≡ number_at 2 at l) where
-      pub at_cut_body : length l - at - 2 < size → Stopped at Cut ≡ record_at l at
+      pub at_cut_body : length l - at - 2 < size → stopped_at at Cut ≡ record_at l at
       unfolding record_at
       at_cut_body m = rw (lt-leb (length l) at h, le-ltb (length l - at) 2 k, ← e, lt-ltb (length l - at - 2) size m)
 
       module _ (m : size ≤ length l - at - 2) where
-        pub at_empty : size ≡ 0 → Stopped at Short ≡ record_at l at
+        pub at_empty : size ≡ 0 → stopped_at at Short ≡ record_at l at
         unfolding record_at
         at_empty z = rw (lt-leb (length l) at h, le-ltb (length l - at) 2 k, ← e, le-ltb (length l - at - 2) size m, eq-eqb size 0 z)
 
@@ -153,11 +150,11 @@ module _ (l : List ℕ) (at : ℕ) where
 pub ruleset offsets = (at_end, at_cut, size_room, at_cut_body, at_empty, rules)
 
 -- ---- the record of what stands after its length
-module _ (at : ℕ) (body : List ℕ) (t : Template) (e : t ≡ template_of (get_or body 0 0)) where
-  pub body_known : (c : Call) (r : Read) → t ≡ Of c → r ≡ record_by at body (Of c) → r ≡ body_read at body
+module _ (at : ℕ) (body : List ℕ) (t : Option Call) (e : t ≡ template_of (get_or body 0 0)) where
+  pub body_known : (c : Call) (r : Read) → t ≡ Some c → r ≡ record_by at body (Some c) → r ≡ body_read at body
   body_known c r p q = q ∙ ap (record_by at body) (sym p ∙ e)
 
-  pub body_unknown : t ≡ Unknown → Stopped at UnknownCall ≡ body_read at body
+  pub body_unknown : t ≡ None → stopped_at at UnknownCall ≡ body_read at body
   unfolding record_by
   body_unknown p = ap (record_by at body) (sym p ∙ e)
 
@@ -170,11 +167,11 @@ module _ (l : List ℕ) (at : ℕ) where
   version_past r h e = rw (lt-ltb 0 at h) e
 
   module _ (h : at ≤ 0) where
-    pub version_none : length l ≡ 0 → Stopped 0 Version ≡ read_at l at
+    pub version_none : length l ≡ 0 → stopped_at 0 Version ≡ read_at l at
     unfolding read_at
     version_none e = rw (le-ltb 0 at h, eq-eqb (length l) 0 e)
 
-    pub version_other : (length l ≡ 0 → ⊥) → (get_or l 0 0 ≡ version → ⊥) → Stopped 0 Version ≡ read_at l at
+    pub version_other : (length l ≡ 0 → ⊥) → (get_or l 0 0 ≡ version → ⊥) → stopped_at 0 Version ≡ read_at l at
     unfolding read_at
     version_other e n = rw (le-ltb 0 at h, ne_eqb (length l) 0 e, ne_eqb (get_or l 0 0) version n)
 

@@ -10,6 +10,7 @@ use lib.Seq.{length-take-le}
 use lib.ListN.{length, set, length-set, take, length-append}
 use borrow.Author.Rules.{rules}
 use borrow.Author.Tests.{lt-ltb, le-ltb}
+use Rattle.std.specs.Prelude.{Ok, Err}
 use Rattle.prelude.specs.Parts.{put_at}
 use Rattle.prelude.proofs.Parts.{length_put}
 use Rattle.tables.specs.declared.answer.Errno.TheVariants.{EINVAL, ERANGE}
@@ -18,7 +19,6 @@ use Rattle.calls.specs.declared.Call.TheVariants.{Fork, Clone, Unshare, Setns, W
 use Rattle.journal.specs.declared.layout.Lent.{Lent}
 use Rattle.journal.specs.declared.layout.Lent.TheVariants.{Text, Groups}
 use Rattle.journal.specs.declared.layout.Form.{Form}
-use Rattle.journal.specs.declared.write.Written.TheVariants.{Length, Refused}
 use Rattle.journal.specs.Numbers.{big_endian, all_big_endian}
 use Rattle.journal.specs.Layout.{byte_of, form_of, fixed_bytes, names_of, numbers_of, first_three}
 use Rattle.journal.specs.Journal.{tail_of, long_buffer, body_of, record_of, write_of, buffer_by}
@@ -288,88 +288,8 @@ body_size c text list n =
     let outer = length-append (all_big_endian 8 (names_of c)) (numbers_on c text list n) in
     omega (arith, body_long c text list [] n 0, names, numbers, some, others, inner, outer)
 
-pub fixed_small : (c : Call) (fixed : ℕ) → fixed ≡ fixed_bytes (form_of c) → fixed ≤ 65535
-fixed_small c fixed e = let few = few_names c in let some = few_numbers c in omega arith
-
--- what the writer knows: the bytes before the tail and those of it
-module _ (c : Call) (text list b : List ℕ) (n at : ℕ) (lent : Lent) (fixed tail : ℕ) (l : lent ≡ (form_of c).lent)
-    (f : fixed ≡ fixed_bytes (form_of c)) (t : tail ≡ length (tail_of lent text list)) where
-  sized : length (body_of c text list n) ≡ fixed + tail
-  sized = body_size c text list n ∙ rw (f, t, l)
-
-  record_sized : length (record_of c text list n) ≡ 2 + (fixed + tail)
-  unfolding record_of
-  record_sized = length-append (big_endian 2 (length (body_of c text list n))) (body_of c text list n) ∙ omega (arith, length_number 2 (length (body_of c text list n)), sized)
-
-  too_long : 65535 - fixed < tail → write_of c text list n b at ≡ Refused EINVAL
-  unfolding write_of
-  too_long h = rw (lt-ltb 65535 (length (body_of c text list n)) (omega (arith, sized, fixed_small c fixed f)))
-
-  module _ (h : tail ≤ 65535 - fixed) where
-    short : ltb 65535 (length (body_of c text list n)) ≡ false
-    short = le-ltb 65535 (length (body_of c text list n)) (omega (arith, sized, fixed_small c fixed f))
-
-    pub size_fits : fixed + tail < 2 ^ 64
-    size_fits = omega (arith, fixed_small c fixed f)
-
-    pub size_is : fixed + tail ≡ length (body_of c text list n)
-    size_is = sym sized
-
-    module _ (over : Bool) (o : over ≡ long_buffer n lent) where
-      over_is : long_buffer n (form_of c).lent ≡ over
-      over_is = rw (← l) (sym o)
-
-      wide_buffer : over ≡ true → write_of c text list n b at ≡ Refused EINVAL
-      unfolding write_of
-      wide_buffer q = rw (short, over_is, q)
-
-      module _ (q : over ≡ false) where
-        no_room : length b < at + (2 + (fixed + tail)) → write_of c text list n b at ≡ Refused ERANGE
-        unfolding write_of
-        no_room k = rw (short, over_is, q, record_sized, lt-ltb (length b) (at + (2 + (fixed + tail))) k)
-
-        room : at + (2 + (fixed + tail)) ≤ length b → write_of c text list n b at ≡ Length (2 + (fixed + tail))
-        unfolding write_of
-        room k = rw (short, over_is, q, record_sized, le-ltb (length b) (at + (2 + (fixed + tail))) k)
-
--- ---- what it answers
-module _ (c : Call) (text list b : List ℕ) (n at : ℕ) (lent : Lent) (fixed tail : ℕ) (l : lent ≡ (form_of c).lent)
-    (f : fixed ≡ fixed_bytes (form_of c)) (t : tail ≡ length (tail_of lent text list)) where
-  pub answer_long : 65535 - fixed < tail → Refused EINVAL ≡ write_of c text list n b at
-  answer_long h = sym (too_long c text list b n at lent fixed tail l f t h)
-
-  pub bytes_long : 65535 - fixed < tail → b ≡ buffer_by c text list n (write_of c text list n b at) b at
-  bytes_long h = rw (too_long c text list b n at lent fixed tail l f t h)
-
-  module _ (h : tail ≤ 65535 - fixed) (over : Bool) (o : over ≡ long_buffer n lent) where
-    pub answer_wide : over ≡ true → Refused EINVAL ≡ write_of c text list n b at
-    answer_wide q = sym (wide_buffer c text list b n at lent fixed tail l f t h over o q)
-
-    pub bytes_wide : over ≡ true → b ≡ buffer_by c text list n (write_of c text list n b at) b at
-    bytes_wide q = rw (wide_buffer c text list b n at lent fixed tail l f t h over o q)
-
-    module _ (q : over ≡ false) where
-      pub answer_past : length b < at → Refused ERANGE ≡ write_of c text list n b at
-      answer_past k = sym (no_room c text list b n at lent fixed tail l f t h over o q (omega arith))
-
-      pub bytes_past : length b < at → b ≡ buffer_by c text list n (write_of c text list n b at) b at
-      bytes_past k = rw (no_room c text list b n at lent fixed tail l f t h over o q (omega arith))
-
-      module _ (p : at ≤ length b) where
-        pub answer_short : length b - at < 2 + (fixed + tail) → Refused ERANGE ≡ write_of c text list n b at
-        answer_short k = sym (no_room c text list b n at lent fixed tail l f t h over o q (omega arith))
-
-        pub bytes_short : length b - at < 2 + (fixed + tail) → b ≡ buffer_by c text list n (write_of c text list n b at) b at
-        bytes_short k = rw (no_room c text list b n at lent fixed tail l f t h over o q (omega arith))
-
-        module _ (k : 2 + (fixed + tail) ≤ length b - at) where
-          pub record_room : at + 2 + (fixed + tail) ≤ length b
-          record_room = omega arith
-
-          pub answer_written : Length (2 + (fixed + tail)) ≡ write_of c text list n b at
-          answer_written = sym (room c text list b n at lent fixed tail l f t h over o q (omega arith))
-
-          pub bytes_written : (b' : List ℕ) → b' ≡ put_at b at (record_of c text list n) → b' ≡ buffer_by c text list n (write_of c text list n b at) b at
-          bytes_written b' e = rw (room c text list b n at lent fixed tail l f t h over o q (omega arith)) e
-
-pub ruleset writes = (fixed_small, answer_long, bytes_long, answer_wide, bytes_wide, answer_past, bytes_past, answer_short, bytes_short, size_fits, size_is, record_room, answer_written, bytes_written, length_put, rules)
+pub record_size : (c : Call) (text list : List ℕ) (n : ℕ) → length (record_of c text list n) ≡ 2 + length (body_of c text list n)
+unfolding record_of
+record_size c text list n =
+    let body = body_of c text list n in
+    length-append (big_endian 2 (length body)) body ∙ omega (arith, length_number 2 (length body))

@@ -90,37 +90,32 @@ pub fn byte_of(c: Call) -> u8
 }
 
 // The call of a call byte, with all its numbers 0, if there is one.
-#[derive(Clone, Copy)]
-pub enum Template {
-    Of(Call),
-    Unknown,
-}
-
-pub fn template_of(byte: u8) -> Template
+#[tactic(auto, using(crate::proofs::Layouts::template_none), unfolding(crate::specs::Layout::template_of, crate::specs::Layout::with_byte, crate::specs::Layout::byte_of))]
+pub fn template_of(byte: u8) -> Option<Call>
     ensures { result ≡ template_of byte }
 {
     match byte {
-        FORK => Template::Of(Call::Fork(0)),
-        CLONE => Template::Of(Call::Clone(0)),
-        UNSHARE => Template::Of(Call::Unshare(0)),
-        SETNS => Template::Of(Call::Setns(0, 0)),
-        WRITE_UID_MAP => Template::Of(Call::WriteMap(Kind::User, 0, 0)),
-        WRITE_GID_MAP => Template::Of(Call::WriteMap(Kind::Group, 0, 0)),
-        WRITE_SETGROUPS => Template::Of(Call::WriteSetgroups(0, 0)),
-        READ_UID_MAP => Template::Of(Call::ReadMap(Kind::User, 0, 0)),
-        READ_GID_MAP => Template::Of(Call::ReadMap(Kind::Group, 0, 0)),
-        READ_SETGROUPS => Template::Of(Call::ReadSetgroups(0, 0)),
-        SETRESUID => Template::Of(Call::SetIds(Kind::User, 0, ZERO_IDS)),
-        SETRESGID => Template::Of(Call::SetIds(Kind::Group, 0, ZERO_IDS)),
-        SETGROUPS => Template::Of(Call::SetGroups(0)),
-        CAPSET => Template::Of(Call::Drop(0, 0, 0)),
-        GETIDS => Template::Of(Call::OwnIdsOf(0)),
-        CAPABLE => Template::Of(Call::Capable(0, 0, 0)),
-        TRANSLATE_UID_OUT => Template::Of(Call::Translate(Kind::User, Way::Out, 0, 0, 0)),
-        TRANSLATE_UID_BACK => Template::Of(Call::Translate(Kind::User, Way::Back, 0, 0, 0)),
-        TRANSLATE_GID_OUT => Template::Of(Call::Translate(Kind::Group, Way::Out, 0, 0, 0)),
-        TRANSLATE_GID_BACK => Template::Of(Call::Translate(Kind::Group, Way::Back, 0, 0, 0)),
-        _ => Template::Unknown,
+        FORK => Some(Call::Fork(0)),
+        CLONE => Some(Call::Clone(0)),
+        UNSHARE => Some(Call::Unshare(0)),
+        SETNS => Some(Call::Setns(0, 0)),
+        WRITE_UID_MAP => Some(Call::WriteMap(Kind::User, 0, 0)),
+        WRITE_GID_MAP => Some(Call::WriteMap(Kind::Group, 0, 0)),
+        WRITE_SETGROUPS => Some(Call::WriteSetgroups(0, 0)),
+        READ_UID_MAP => Some(Call::ReadMap(Kind::User, 0, 0)),
+        READ_GID_MAP => Some(Call::ReadMap(Kind::Group, 0, 0)),
+        READ_SETGROUPS => Some(Call::ReadSetgroups(0, 0)),
+        SETRESUID => Some(Call::SetIds(Kind::User, 0, ZERO_IDS)),
+        SETRESGID => Some(Call::SetIds(Kind::Group, 0, ZERO_IDS)),
+        SETGROUPS => Some(Call::SetGroups(0)),
+        CAPSET => Some(Call::Drop(0, 0, 0)),
+        GETIDS => Some(Call::OwnIdsOf(0)),
+        CAPABLE => Some(Call::Capable(0, 0, 0)),
+        TRANSLATE_UID_OUT => Some(Call::Translate(Kind::User, Way::Out, 0, 0, 0)),
+        TRANSLATE_UID_BACK => Some(Call::Translate(Kind::User, Way::Back, 0, 0, 0)),
+        TRANSLATE_GID_OUT => Some(Call::Translate(Kind::Group, Way::Out, 0, 0, 0)),
+        TRANSLATE_GID_BACK => Some(Call::Translate(Kind::Group, Way::Back, 0, 0, 0)),
+        _ => None,
     }
 }
 

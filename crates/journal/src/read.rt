@@ -1,11 +1,10 @@
 // The reader: the call of the record at an offset of a journal.
-ghost use Rattle.std.specs.Prelude.{◌≡◌, ◌+◌, ◌*◌, ◌≤◌, ◌<◌, ◌^◌, length};
-ghost use Rattle.journal.specs.declared.layout.Template.TheVariants.{Of};
+ghost use Rattle.std.specs.Prelude.{◌≡◌, ◌+◌, ◌*◌, ◌≤◌, ◌<◌, ◌^◌, length, Some};
 ghost use Rattle.journal.specs.Numbers.{number_at};
 ghost use Rattle.journal.specs.Layout.{form_of, fixed_bytes, call_by};
-ghost use Rattle.journal.specs.Reading.{leftover, text_bytes, id_count, buffer_length, three_in, names_in, numbers_in, record_by, body_read, record_at, read_at, list_after};
+ghost use Rattle.journal.specs.Reading.{leftover, text_bytes, id_count, buffer_length, three_in, names_in, numbers_in, stop_at, record_by, body_read, record_at, read_at, list_after};
 
-use crate::layout::{Lent, Template};
+use crate::layout::Lent;
 use crate::numbers::{name_at, number_at};
 use crate::{MAX_IDS, NAME_BYTES, NUMBER_BYTES, SIZE_BYTES, VERSION, layout, numbers};
 use calls::Call;
@@ -38,13 +37,23 @@ pub struct Record {
     pub next: usize,
 }
 
-// What stands at an offset: a record, the journal's end, or a stop with the offset where the bad record starts.
+// A stop, with the offset where the bad record starts.
 #[derive(Clone, Copy)]
-pub enum Read {
-    Found(Record),
-    End,
-    Stopped(usize, Stop),
+pub struct Stopped {
+    pub at: usize,
+    pub why: Stop,
 }
+
+impl Stop {
+    fn at(self, at: usize) -> Stopped
+        ensures { result ≡ stop_at at self }
+    {
+        Stopped { at: at, why: self }
+    }
+}
+
+// What stands at an offset: a record, the journal's end, or a stop.
+pub type Read = Result<Option<Record>, Stopped>;
 
 // Where the names of a record stand after its length, and where its numbers do after one name.
 const FIRST: usize = 1;
@@ -173,47 +182,47 @@ fn buffer_length(c: Call, body: &[u8]) -> u32
 }
 
 // The record at an offset, of a template's call, with what stands in it after its length.
+#[tactic(auto, using(std::proofs::lemmas::Bool::Decides::nat_tests), unfolding(crate::specs::Reading::record_by))]
 fn record_in(at: usize, body: &[u8], c: Call) -> Read
     requires { at + 2 + length body.now < 2 ^ 64 }
-    ensures { result ≡ record_by at body.now (Of c) }
+    ensures { result ≡ record_by at body.now (Some c) }
 {
     let size = body.len();
     let next = at + SIZE_BYTES + size;
     let fixed = layout::fixed_bytes(c);
     // A record has all the arguments of its call.
     if size < fixed {
-        return Read::Stopped(at, Stop::Short);
+        return Err(Stop::Short.at(at));
     }
     let f = layout::form_of(c);
     let lent = f.lent;
     let rest = size - fixed;
     // And nothing after them.
     if left_over(lent, rest) {
-        return Read::Stopped(at, Stop::Leftover);
+        return Err(Stop::Leftover.at(at));
     }
     let call = call_in(c, body);
     let buffer = buffer_length(c, body);
     let text = text_bytes(lent, rest);
     let ids = id_count(lent, rest);
-    Read::Found(Record {
+    Ok(Some(Record {
         call: call,
         tail: at + SIZE_BYTES + fixed,
         text: text,
         ids: ids,
         buffer: buffer,
         next: next,
-    })
+    }))
 }
 
 // The record at an offset, with what stands in it after its length.
+#[tactic(auto, using(std::proofs::lemmas::Bool::Decides::nat_tests), unfolding(crate::specs::Reading::record_by))]
 fn record_of(at: usize, body: &[u8]) -> Read
     requires { (0 < length body.now) × (at + 2 + length body.now < 2 ^ 64) }
     ensures { result ≡ body_read at body.now }
 {
-    match layout::template_of(body[0]) {
-        Template::Of(c) => record_in(at, body, c),
-        Template::Unknown => Read::Stopped(at, Stop::UnknownCall),
-    }
+    let call = layout::template_of(body[0]).ok_or(Stop::UnknownCall.at(at))?;
+    record_in(at, body, call)
 }
 
 // The length that stands at an offset.
@@ -226,32 +235,34 @@ fn size_at(journal: &[u8], at: usize) -> usize
 }
 
 // The record at an offset past the version byte.
+#[tactic(auto, using(std::proofs::lemmas::Bool::Decides::nat_tests), unfolding(crate::specs::Reading::record_at, prelude::specs::Parts::part))]
 fn record_at(journal: &[u8], at: usize) -> Read
     ensures { result ≡ record_at journal.now at }
 {
     if journal.len() <= at {
-        return Read::End;
+        return Ok(None);
     }
     let left = journal.len() - at;
     // The two bytes of its length are there.
     if left < SIZE_BYTES {
-        return Read::Stopped(at, Stop::Cut);
+        return Err(Stop::Cut.at(at));
     }
     let start = at + SIZE_BYTES;
     let size = size_at(journal, at);
     // And as many as it says.
     if left - SIZE_BYTES < size {
-        return Read::Stopped(at, Stop::Cut);
+        return Err(Stop::Cut.at(at));
     }
     // A record has a call byte.
     if size == 0 {
-        return Read::Stopped(at, Stop::Short);
+        return Err(Stop::Short.at(at));
     }
     let end = start + size;
     record_of(at, &journal[start..end])
 }
 
 // The record at an offset; at 0 the version byte is read, and the record after it.
+#[tactic(auto, using(std::proofs::lemmas::Bool::Decides::nat_tests), unfolding(crate::specs::Reading::read_at))]
 fn version_then_record(journal: &[u8], at: usize) -> Read
     ensures { result ≡ read_at journal.now at }
 {
@@ -260,10 +271,10 @@ fn version_then_record(journal: &[u8], at: usize) -> Read
     }
     // A journal begins with its version.
     if journal.len() == 0 {
-        return Read::Stopped(0, Stop::Version);
+        return Err(Stop::Version.at(0));
     }
     if journal[0] != VERSION {
-        return Read::Stopped(0, Stop::Version);
+        return Err(Stop::Version.at(0));
     }
     record_at(journal, 1)
 }
@@ -275,15 +286,9 @@ pub fn read_record(journal: &[u8], at: usize, list: &mut [u32; MAX_IDS]) -> Read
     ensures answer { result ≡ read_at journal.now at }
     ensures ids { list.new ≡ list_after journal.now (read_at journal.now at) list.old }
 {
-    let read = version_then_record(journal, at);
-    match read {
-        Read::Found(r) => {
-            let tail = r.tail;
-            let ids = r.ids;
-            numbers::load_list(journal, tail, ids, list);
-            Read::Found(r)
-        }
-        Read::End => Read::End,
-        Read::Stopped(offset, why) => Read::Stopped(offset, why),
+    let found = version_then_record(journal, at)?;
+    if let Some(r) = found {
+        numbers::load_list(journal, r.tail, r.ids, list);
     }
+    Ok(found)
 }

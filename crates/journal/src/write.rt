@@ -12,13 +12,6 @@ use calls::Call;
 use idmap::TWO_TO_32;
 use tables::answer::Errno;
 
-// The bytes of the record that was written, or why none was.
-#[derive(Clone, Copy)]
-pub enum Written {
-    Length(usize),
-    Refused(Errno),
-}
-
 fn name_count(c: Call) -> usize
     ensures { result ≡ (form_of c).names }
 {
@@ -162,8 +155,9 @@ fn put_record(
 }
 
 // Writes the record of a call, with the text, the list and the length of the buffer that are lent beside it, into a
-// buffer from a place on, and answers how many bytes it has. Ruled out, for instance: a record's first bytes where the
+// buffer from a place on, and answers how many bytes it has, or why none was written. Ruled out, for instance: a record's first bytes where the
 // whole does not fit; a length that is cut off at two bytes.
+#[tactic(auto, using(std::proofs::lemmas::Bool::Decides::nat_tests, crate::proofs::Layouts::few_names, crate::proofs::Layouts::few_numbers, crate::proofs::Writes::body_size, crate::proofs::Writes::record_size), unfolding(crate::specs::Journal::write_of))]
 pub fn write_record(
     c: Call,
     text: &[u8],
@@ -171,7 +165,7 @@ pub fn write_record(
     buffer_length: u64,
     buffer: &mut [u8],
     at: usize,
-) -> Written
+) -> Result<usize, Errno>
     ensures answer { result ≡ write_of c text.now list.now buffer_length buffer.old at }
     ensures bytes { buffer.new ≡ buffer_by c text.now list.now buffer_length (write_of c text.now list.now buffer_length buffer.old at) buffer.old at }
 {
@@ -180,20 +174,20 @@ pub fn write_record(
     let fixed = layout::fixed_bytes(c);
     // A length has two bytes.
     if tail > MAX_SIZE - fixed {
-        return Written::Refused(Errno::EINVAL);
+        return Err(Errno::EINVAL);
     }
     // A buffer's length has four.
     if long_buffer(lent, buffer_length) {
-        return Written::Refused(Errno::EINVAL);
+        return Err(Errno::EINVAL);
     }
     let size = fixed + tail;
     // There is room for the record.
     if buffer.len() < at {
-        return Written::Refused(Errno::ERANGE);
+        return Err(Errno::ERANGE);
     }
     if buffer.len() - at < SIZE_BYTES + size {
-        return Written::Refused(Errno::ERANGE);
+        return Err(Errno::ERANGE);
     }
     put_record(buffer, at, size, c, text, list, buffer_length);
-    Written::Length(SIZE_BYTES + size)
+    Ok(SIZE_BYTES + size)
 }

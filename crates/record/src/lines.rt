@@ -1,6 +1,6 @@
 // A line of a script as a record of a journal.
 use calls::Call;
-use journal::write::{Written, write_record};
+use journal::write::write_record;
 use script::lines;
 use script::lines::{Beside, Line, MAX_LIST};
 use tables::answer::Errno;
@@ -23,8 +23,8 @@ pub enum Recorded {
 // Writes the record of a call with what is lent beside it.
 fn write(c: Call, text: &[u8], list: &[u32], length: usize, out: &mut [u8], at: usize) -> Recorded {
     match write_record(c, text, list, length as u64, out, at) {
-        Written::Length(n) => Recorded::Length(n),
-        Written::Refused(e) => Recorded::Stopped(Stop::Refused(e)),
+        Ok(n) => Recorded::Length(n),
+        Err(e) => Recorded::Stopped(Stop::Refused(e)),
     }
 }
 

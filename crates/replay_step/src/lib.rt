@@ -83,15 +83,11 @@ pub fn step(
 {
     let read = journal::read::read_record(journal, at, list);
     match read {
-        Read::Found(r) => Replayed {
+        Ok(Some(r)) => Replayed {
             read: read,
             response: make(t, r, journal, list, buffer),
         },
-        Read::End => Replayed {
-            read: read,
-            response: nothing(),
-        },
-        Read::Stopped(_, _) => Replayed {
+        _ => Replayed {
             read: read,
             response: nothing(),
         },
