@@ -225,15 +225,6 @@ fn record_of(at: usize, body: &[u8]) -> Read
     record_in(at, body, call)
 }
 
-// The length that stands at an offset.
-fn size_at(journal: &[u8], at: usize) -> usize
-    requires { at + 2 ≤ length journal.now }
-    ensures { result ≡ number_at 2 at journal.now }
-{
-    let end = at + SIZE_BYTES;
-    numbers::of_two(&journal[at..end])
-}
-
 // The record at an offset past the version byte.
 #[tactic(auto, using(std::proofs::lemmas::Bool::Decides::nat_tests), unfolding(crate::specs::Reading::record_at, prelude::specs::Parts::part))]
 fn record_at(journal: &[u8], at: usize) -> Read
@@ -248,7 +239,7 @@ fn record_at(journal: &[u8], at: usize) -> Read
         return Err(Stop::Cut.at(at));
     }
     let start = at + SIZE_BYTES;
-    let size = size_at(journal, at);
+    let size = numbers::size_at(journal, at);
     // And as many as it says.
     if left - SIZE_BYTES < size {
         return Err(Stop::Cut.at(at));

@@ -54,7 +54,7 @@ fn put_tail(buffer: &mut [u8], at: usize, lent: Lent, text: &[u8], list: &[u32])
         Lent::Text => {
             idmap::show::put_text(buffer, at, text);
         }
-        Lent::Groups => numbers::put_list(buffer, at, list),
+        Lent::Groups => numbers::put_numbers(buffer, at, NUMBER_BYTES, list),
         Lent::Buffer => {}
     }
 }
