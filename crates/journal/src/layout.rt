@@ -68,6 +68,7 @@ fn translate_byte(kind: Kind, way: Way) -> u8
 }
 
 // The call byte of a call.
+#[tactic(auto, unfolding(crate::specs::Layout::byte_of))]
 pub fn byte_of(c: Call) -> u8
     ensures { result ≡ byte_of c }
 {
@@ -137,39 +138,34 @@ pub struct Form {
     pub lent: Lent,
 }
 
-fn made_of(names: usize, numbers: usize, lent: Lent) -> Form
-    ensures { result ≡ form_by names numbers lent }
-{
-    Form {
-        names: names,
-        numbers: numbers,
-        lent: lent,
-    }
-}
-
+#[tactic(auto, unfolding(crate::specs::Layout::form_of))]
 pub fn form_of(c: Call) -> Form
     ensures { result ≡ form_of c }
 {
-    match c {
-        Call::Fork(_) => made_of(1, 0, Lent::Nothing),
-        Call::Clone(_) => made_of(1, 0, Lent::Nothing),
-        Call::Unshare(_) => made_of(1, 0, Lent::Nothing),
-        Call::Setns(_, _) => made_of(2, 0, Lent::Nothing),
-        Call::WriteMap(_, _, _) => made_of(2, 0, Lent::Text),
-        Call::WriteSetgroups(_, _) => made_of(2, 0, Lent::Text),
-        Call::ReadMap(_, _, _) => made_of(2, 1, Lent::Buffer),
-        Call::ReadSetgroups(_, _) => made_of(2, 1, Lent::Buffer),
-        Call::SetIds(_, _, _) => made_of(1, 3, Lent::Nothing),
-        Call::SetGroups(_) => made_of(1, 0, Lent::Groups),
-        Call::Capable(_, _, _) => made_of(2, 1, Lent::Nothing),
-        Call::Drop(_, _, _) => made_of(3, 0, Lent::Nothing),
-        Call::OwnIdsOf(_) => made_of(1, 0, Lent::Nothing),
-        Call::Translate(_, _, _, _, _) => made_of(2, 1, Lent::Nothing),
+    let (names, numbers, lent) = match c {
+        Call::Fork(_) | Call::Clone(_) | Call::Unshare(_) | Call::OwnIdsOf(_) => (
+            1,
+            0,
+            Lent::Nothing,
+        ),
+        Call::Setns(_, _) => (2, 0, Lent::Nothing),
+        Call::WriteMap(_, _, _) | Call::WriteSetgroups(_, _) => (2, 0, Lent::Text),
+        Call::ReadMap(_, _, _) | Call::ReadSetgroups(_, _) => (2, 1, Lent::Buffer),
+        Call::SetIds(_, _, _) => (1, 3, Lent::Nothing),
+        Call::SetGroups(_) => (1, 0, Lent::Groups),
+        Call::Capable(_, _, _) | Call::Translate(_, _, _, _, _) => (2, 1, Lent::Nothing),
+        Call::Drop(_, _, _) => (3, 0, Lent::Nothing),
+    };
+    Form {
+        names,
+        numbers,
+        lent,
     }
 }
 
 // The bytes of a call's record before a text or a list, without the record's length: the call byte, the names and the
 // other numbers.
+#[tactic(auto, using(crate::proofs::Layouts::few_names, crate::proofs::Layouts::few_numbers))]
 pub fn fixed_bytes(c: Call) -> usize
     ensures { result ≡ fixed_bytes (form_of c) }
 {
@@ -178,45 +174,49 @@ pub fn fixed_bytes(c: Call) -> usize
 }
 
 // The names of a call in order, the caller first, and 0 past the last.
+#[tactic(auto, unfolding(crate::specs::Layout::names_of))]
 pub fn names_of(c: Call) -> [u64; 3]
     ensures { result ≡ first_three (names_of c) }
 {
     match c {
-        Call::Fork(a) => [a, 0, 0],
-        Call::Clone(a) => [a, 0, 0],
-        Call::Unshare(a) => [a, 0, 0],
-        Call::Setns(a, b) => [a, b, 0],
-        Call::WriteMap(_, a, b) => [a, b, 0],
-        Call::WriteSetgroups(a, b) => [a, b, 0],
-        Call::ReadMap(_, a, b) => [a, b, 0],
-        Call::ReadSetgroups(a, b) => [a, b, 0],
-        Call::SetIds(_, a, _) => [a, 0, 0],
-        Call::SetGroups(a) => [a, 0, 0],
-        Call::Capable(a, b, _) => [a, b, 0],
+        Call::Fork(a)
+        | Call::Clone(a)
+        | Call::Unshare(a)
+        | Call::SetIds(_, a, _)
+        | Call::SetGroups(a)
+        | Call::OwnIdsOf(a) => [a, 0, 0],
+        Call::Setns(a, b)
+        | Call::WriteMap(_, a, b)
+        | Call::WriteSetgroups(a, b)
+        | Call::ReadMap(_, a, b)
+        | Call::ReadSetgroups(a, b)
+        | Call::Capable(a, b, _)
+        | Call::Translate(_, _, a, b, _) => [a, b, 0],
         Call::Drop(a, b, d) => [a, b, d],
-        Call::OwnIdsOf(a) => [a, 0, 0],
-        Call::Translate(_, _, a, b, _) => [a, b, 0],
     }
 }
 
 // The other numbers of a call in order, where a read has its buffer's length, and 0 past the last.
+#[tactic(auto, unfolding(crate::specs::Layout::numbers_of))]
 pub fn numbers_of(c: Call, buffer_length: u64) -> [u64; 3]
     ensures { result ≡ first_three (numbers_of c buffer_length) }
 {
     match c {
-        Call::Fork(_) => [0, 0, 0],
-        Call::Clone(_) => [0, 0, 0],
-        Call::Unshare(_) => [0, 0, 0],
-        Call::Setns(_, _) => [0, 0, 0],
-        Call::WriteMap(_, _, _) => [0, 0, 0],
-        Call::WriteSetgroups(_, _) => [0, 0, 0],
-        Call::ReadMap(_, _, _) => [buffer_length, 0, 0],
-        Call::ReadSetgroups(_, _) => [buffer_length, 0, 0],
-        Call::SetIds(_, _, i) => [i.real as u64, i.effective as u64, i.saved as u64],
-        Call::SetGroups(_) => [0, 0, 0],
-        Call::Capable(_, _, x) => [x as u64, 0, 0],
-        Call::Drop(_, _, _) => [0, 0, 0],
-        Call::OwnIdsOf(_) => [0, 0, 0],
-        Call::Translate(_, _, _, _, x) => [x as u64, 0, 0],
+        Call::Fork(_)
+        | Call::Clone(_)
+        | Call::Unshare(_)
+        | Call::Setns(_, _)
+        | Call::WriteMap(_, _, _)
+        | Call::WriteSetgroups(_, _)
+        | Call::SetGroups(_)
+        | Call::Drop(_, _, _)
+        | Call::OwnIdsOf(_) => [0, 0, 0],
+        Call::ReadMap(_, _, _) | Call::ReadSetgroups(_, _) => [buffer_length, 0, 0],
+        Call::SetIds(_, _, i) => [
+            u64::from(i.real),
+            u64::from(i.effective),
+            u64::from(i.saved),
+        ],
+        Call::Capable(_, _, x) | Call::Translate(_, _, _, _, x) => [u64::from(x), 0, 0],
     }
 }

@@ -79,6 +79,7 @@ fn ids_in(body: &[u8]) -> Ids
 }
 
 // The call of a template, with the arguments that stand in a record after its length.
+#[tactic(auto, unfolding(crate::specs::Layout::form_of, crate::specs::Layout::call_by))]
 fn call_in(c: Call, body: &[u8]) -> Call
     requires { fixed_bytes (form_of c) ≤ length body.now }
     ensures { result ≡ call_by c (names_in c body.now) (numbers_in c body.now) }
@@ -137,10 +138,9 @@ fn left_over(lent: Lent, rest: usize) -> bool
     ensures { result ≡ leftover lent rest }
 {
     match lent {
-        Lent::Nothing => rest > 0,
+        Lent::Nothing | Lent::Buffer => rest > 0,
         Lent::Text => false,
         Lent::Groups => rest % NUMBER_BYTES > 0,
-        Lent::Buffer => rest > 0,
     }
 }
 
@@ -148,10 +148,8 @@ fn text_bytes(lent: Lent, rest: usize) -> usize
     ensures { result ≡ text_bytes lent rest }
 {
     match lent {
-        Lent::Nothing => 0,
         Lent::Text => rest,
-        Lent::Groups => 0,
-        Lent::Buffer => 0,
+        Lent::Nothing | Lent::Groups | Lent::Buffer => 0,
     }
 }
 
@@ -159,25 +157,20 @@ fn id_count(lent: Lent, rest: usize) -> usize
     ensures { result ≡ id_count lent rest }
 {
     match lent {
-        Lent::Nothing => 0,
-        Lent::Text => 0,
         Lent::Groups => rest / NUMBER_BYTES,
-        Lent::Buffer => 0,
+        Lent::Nothing | Lent::Text | Lent::Buffer => 0,
     }
 }
 
 // The length of a read's buffer, which is its one number.
+#[tactic(auto, using(crate::proofs::Records::read_form))]
 fn buffer_length(c: Call, body: &[u8]) -> u32
     requires { fixed_bytes (form_of c) ≤ length body.now }
     ensures { result ≡ buffer_length (form_of c).lent (numbers_in c body.now) }
 {
-    let f = layout::form_of(c);
-    let lent = f.lent;
-    match lent {
-        Lent::Nothing => 0,
-        Lent::Text => 0,
-        Lent::Groups => 0,
+    match layout::form_of(c).lent {
         Lent::Buffer => number_at(body, THIRD),
+        Lent::Nothing | Lent::Text | Lent::Groups => 0,
     }
 }
 
