@@ -5,10 +5,12 @@ ghost use Rattle.exports.specs.Journal.{written_code, write_by, buffer_after};
 
 use crate::refusal;
 use calls::Call;
+use journal::write::Beside;
 use records::Ids;
 use tables::answer::Errno;
 
 // The call of a template with the names and the other numbers that stand in order in two arrays.
+#[tactic(auto, unfolding(journal::specs::Layout::call_by))]
 fn call_by(d: Call, names: &[u64; 3], numbers: &[u32; 3]) -> Call
     ensures { result ≡ call_by d names.now numbers.now }
 {
@@ -70,7 +72,12 @@ pub fn oarhatchet_write_record(
     match journal::layout::template_of(call) {
         Some(d) => {
             let c = call_by(d, names, numbers);
-            bytes(journal::write::write_record(c, text, list, length, buffer, at))
+            let beside = Beside {
+                text,
+                list,
+                buffer_length: length,
+            };
+            bytes(journal::write::write_record(c, &beside, buffer, at))
         }
         None => refusal(Errno::EINVAL),
     }

@@ -5,7 +5,6 @@ use mathlib.Core.List.{List, [], ◌∷◌}
 use native.Mathlib.Omega.{arith}
 use lib.ListN.{length, get_or, set, take, drop}
 use lib.Seq.{paste, paste-zero, get_or-take, get_or-drop}
-use borrow.Author.Rules.{rules}
 use Rattle.std.specs.Int.{w16, w32, w64, from_be_bytes}
 use Rattle.prelude.specs.Parts.{part, put_at}
 use Rattle.prelude.specs.Lists.{tab}
@@ -99,4 +98,4 @@ module _ (a n : ℕ) (s l t : List ℕ) (i : ℕ) where
       let many = length_tab (λ (j : ℕ). number_at 4 (a + 4 * j) s) n 0 in
       put_all l 0 vs t i (omega arith) (omega arith) (omega arith) e
 
-pub ruleset gets = (list_starts, list_step, list_done, rules)
+pub ruleset gets = (list_starts, list_step)

@@ -164,29 +164,3 @@ found_inside l at r e =
     let f = found_from l at r e in
     let i = inside_at l f.0 r (found_at l f.0 r f.3) in
     record { text_inside = i.text_inside; ids_inside = i.ids_inside; few_ids = i.few_ids; next_inside = i.next_inside; next_past = omega (arith, f.1, i.next_past) }
-
--- ---- what the reader leaves
-module _ (l : List ℕ) (at : ℕ) (read : Read) (e : read ≡ read_at l at) where
-  module _ (r : Record) (p : read ≡ Ok (Some r)) where
-    found_is : read_at l at ≡ Ok (Some r)
-    found_is = sym e ∙ p
-
-    pub ids_room : r.tail + 4 * r.ids ≤ length l
-    ids_room = (found_inside l at r found_is).ids_inside
-
-    pub ids_few : (n : ℕ) → n ≡ 16381 → r.ids ≤ n
-    ids_few n q = rw q (found_inside l at r found_is).few_ids
-
-    pub list_found : (list t : List ℕ) → t ≡ put_at list 0 (numbers_at 4 r.ids r.tail l) → t ≡ list_after l (read_at l at) list
-    list_found list t q = rw found_is q
-
-  pub read_same : (r : Read) → read ≡ r → r ≡ read_at l at
-  read_same r p = sym p ∙ e
-
-  pub list_end : (list : List ℕ) → read ≡ Ok None → list ≡ list_after l (read_at l at) list
-  list_end list p = rw (← e, p)
-
-  pub list_stopped : (list : List ℕ) (offset : ℕ) (why : Stop) → read ≡ stopped_at offset why → list ≡ list_after l (read_at l at) list
-  list_stopped list offset why p = rw (← e, p)
-
-pub ruleset readings = (ids_room, ids_few, list_found, read_same, list_end, list_stopped, rules)

@@ -100,10 +100,6 @@ number_put b bs ys at w x small fits p e =
     rw (is, k, drop-drop w at b) (sym (put_inside b at n (omega arith) ∙ ap (λ (i : ℕ). take at b ++ n ++ drop (at + i) b) long ∙ append_assoc (take at b) n (drop (at + w) b)))
 
 -- ---- numbers, one after the other
-pub length_numbers : (w x : ℕ) (xs : List ℕ) → length (all_big_endian w (x ∷ xs)) ≡ w + length (all_big_endian w xs)
-unfolding all_big_endian
-length_numbers w x xs = length-append (big_endian w x) (all_big_endian w xs) ∙ rw (length_number w x)
-
 -- those from i on are left to be put, and W is the buffer with all of them
 pub Rest : List ℕ → List ℕ → ℕ → ℕ → List ℕ → ℕ → Type 0
 Rest b W place w xs i = (place + length (all_big_endian w (drop i xs)) ≤ length b) × (put_at b place (all_big_endian w (drop i xs)) ≡ W)

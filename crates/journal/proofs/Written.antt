@@ -176,13 +176,12 @@ module _ (r : Request) (ok : Writable r) where
     split = e ∙ append_assoc (big_endian 2 (length body)) body rest
 
     pub record_found : record_at l at ≡ Ok (Some (record_in at body d))
+    unfolding part
     record_found =
         let long = left_long l (body ++ rest) at split in
         let more = length-append body rest in
         let some = body_long in
-        let w : at + 2 + length body - (at + 2) ≡ length body = omega arith in
-        let is : body ≡ take (at + 2 + length body - (at + 2)) (drop (at + 2) l) =
-        rw (w, after_size l (body ++ rest) at split) (sym (take_at body rest (length body) refl)) in
+        let is : body ≡ part (length body) (at + 2) l = rw (after_size l (body ++ rest) at split) (sym (take_at body rest (length body) refl)) in
         let byte : byte_of c ≡ get_or body 0 0 = sym (ap (λ (x : List ℕ). get_or x 0 0) body_is) in
         let read : body_read at body ≡ Ok (Some (record_in at body d)) = rw (← byte, (listed c).template) (body_read_lem at) in
         sym

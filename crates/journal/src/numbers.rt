@@ -91,6 +91,7 @@ pub(crate) fn name_at(s: &[u8], at: usize) -> u64
 }
 
 // Puts the numbers of four bytes from a place on into a list.
+#[tactic(auto, using(crate::proofs::Gets::gets))]
 pub(crate) fn load_list(s: &[u8], at: usize, count: usize, list: &mut [u32])
     requires { (at + 4 * count ≤ length s.now) × (count ≤ length list.old) }
     ensures { list.new ≡ put_at list.old 0 (numbers_at 4 count at s.now) }
