@@ -42,7 +42,6 @@ fn call_by(d: Call, names: &[u64; 3], numbers: &[u32; 3]) -> Call
 }
 
 // The bytes of a record, or the number of a refusal, negated.
-#[tactic(auto, using(crate::proofs::Recording::recording))]
 fn bytes(w: Result<usize, Errno>) -> u64
     ensures { result ≡ written_code w }
 {
@@ -55,7 +54,6 @@ fn bytes(w: Result<usize, Errno>) -> u64
 // Writes the record of the call that has this call byte into a buffer from a place on. Its names, the caller first, and
 // its other numbers stand in order in the two arrays; of a read the buffer's length stands beside them. What the call
 // does not have is not looked at.
-#[tactic(auto, using(crate::proofs::Recording::recording))]
 pub fn oarhatchet_write_record(
     call: u8,
     names: &[u64; 3],

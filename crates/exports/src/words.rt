@@ -63,7 +63,6 @@ fn found_words(r: Record, namespace: u64) -> [u64; RECORD_WORDS]
 }
 
 // The words of what stands at an offset, with the new namespace of the call.
-#[tactic(auto, using(crate::proofs::Replaying::wording))]
 pub(crate) fn words_of(read: Read, at: usize, namespace: u64) -> [u64; RECORD_WORDS]
     ensures { result ≡ read_words read at namespace }
 {
