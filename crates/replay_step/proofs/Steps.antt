@@ -27,13 +27,7 @@ use Rattle.journal.proofs.Gets.{length_tab}
 use Rattle.journal.proofs.Inside.{found_inside}
 use Rattle.replay_step.specs.Replay.{behind, made_of, replay_of, Unchanged}
 
--- ---- a prefix that is lent
-pub prefix_long : (n : ℕ) (l : List ℕ) → n ≤ length l → n ≡ length (take n l)
-prefix_long n l h = sym (length-take-le n l h)
-
-pub least_long : (n k : ℕ) (l : List ℕ) → n ≡ min k (length l) → n ≡ length (take n l)
-least_long n k l e = sym (length-take-le n l (omega arith))
-
+-- ---- the buffer behind what is lent of it
 drop_min : (k : ℕ) (l : List ℕ) → drop (min k (length l)) l ≡ drop k l
 drop_min k l =
     by_test (leb k (length l))
@@ -52,8 +46,6 @@ call_made p a a' after l list buffer r s n e h =
     let rest : drop n buffer ≡ drop r.buffer buffer = rw e (drop_min r.buffer buffer) in
     let made = rw (text, front) at h in
     rw rest (record { outcome = ap (λ (o : Step). behind o (drop r.buffer buffer)) made.outcome; whole = made.whole; kept = made.kept })
-
-pub ruleset makes = (prefix_long, least_long, call_made, rules)
 
 -- ---- a record that was found
 module _ (l : List ℕ) (at : ℕ) (read : Read) (e : read ≡ read_at l at) (r : Record) (p : read ≡ Ok (Some r)) where

@@ -21,6 +21,6 @@ pub returns-in_default-clause-made : goal.returns-in_default-clause-made
 returns-in_default-clause-made c =
     let read = c.read_record-read.ensures.answer in
     elim c.in_default.branch [
-      in_default-via-in-Ok+in_default w ↦ end_made c.args.journal.now c.args.at _ read _ _ _ c.nothing.ensures (search rules)
+      | in_default-via-in-Ok+in_default w ↦ end_made c.args.journal.now c.args.at _ read _ _ _ c.nothing.ensures (search rules)
       | in_default-via-in_default w ↦ stop_made c.args.journal.now c.args.at _ read _ _ _ c.nothing.ensures w.in_default.field-0 w.in_default.is
     ]
