@@ -14,13 +14,13 @@ use Rattle.prelude.proofs.Tests.{by_test}
 use Rattle.prelude.proofs.Parts.{length_part}
 use Rattle.prelude.proofs.Made.{tab_all}
 use Rattle.calls.specs.declared.Call.{Call}
-use Rattle.calls.specs.declared.Call.TheVariants.{Fork, Clone, Unshare, Setns, WriteMap, WriteSetgroups, ReadMap, ReadSetgroups, SetIds, SetGroups, Capable, Drop, OwnIdsOf, Translate}
 use Rattle.journal.specs.declared.layout.Lent.{Lent}
 use Rattle.journal.specs.declared.layout.Lent.TheVariants.{Nothing, Text, Groups, Buffer}
 use Rattle.journal.specs.declared.read.Stop.{Stop}
 use Rattle.journal.specs.declared.read.Record.{Record}
 use Rattle.journal.specs.Numbers.{number_from, number_at, numbers_at}
 use Rattle.journal.specs.Layout.{version, template_of, form_of, fixed_bytes}
+use Rattle.journal.proofs.Layouts.{some_names}
 use Rattle.journal.specs.Reading.{Read, stopped_at, leftover, text_bytes, id_count, rest_of, record_in, record_by, record_at, read_at, list_after}
 
 -- ---- what the tests say of a record that was found
@@ -122,23 +122,6 @@ ids_most Text rest = omega arith
 ids_most Groups rest = omega arith
 ids_most Buffer rest = omega arith
 
-pub caller_there : (c : Call) → 9 ≤ fixed_bytes (form_of c)
-unfolding form_of
-caller_there (Fork c) = omega arith
-caller_there (Clone c) = omega arith
-caller_there (Unshare c) = omega arith
-caller_there (Setns c n) = omega arith
-caller_there (WriteMap k c p) = omega arith
-caller_there (WriteSetgroups c p) = omega arith
-caller_there (ReadMap k c p) = omega arith
-caller_there (ReadSetgroups c p) = omega arith
-caller_there (SetIds k c i) = omega arith
-caller_there (SetGroups c) = omega arith
-caller_there (Capable c n number) = omega arith
-caller_there (Drop c p e) = omega arith
-caller_there (OwnIdsOf c) = omega arith
-caller_there (Translate k w c n x) = omega arith
-
 inside_at : (l : List ℕ) (at : ℕ) (r : Record) → FoundAt l at r → Inside l at r
 inside_at l at r f =
     let size = number_at 2 at l in
@@ -148,7 +131,7 @@ inside_at l at r f =
     let fixed = fixed_bytes (form_of c) in
     let long : length body ≡ size = length_part size (at + 2) l f.whole in
     let small = size_small l at f.head in
-    let caller = caller_there c in
+    let caller = some_names c in
     let t = text_most (form_of c).lent (rest_of c body) in
     let i = ids_most (form_of c).lent (rest_of c body) in
     rw (← b.is) (record {

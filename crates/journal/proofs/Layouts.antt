@@ -13,40 +13,32 @@ use Rattle.calls.specs.declared.Call.TheVariants.{Fork, Clone, Unshare, Setns, W
 use Rattle.journal.specs.declared.layout.Form.{Form}
 use Rattle.journal.specs.Layout.{by_kind, by_way, byte_of, templates, with_byte, template_of, form_of, fixed_bytes, names_of, numbers_of, first_three}
 
--- at most three names and three numbers
-pub few_names : (c : Call) → (form_of c).names ≤ 3
+-- a call has one to three names, and at most three numbers
+few : (c : Call) → (1 ≤ (form_of c).names) × ((form_of c).names ≤ 3) × ((form_of c).numbers ≤ 3)
 unfolding form_of
-few_names (Fork c) = omega arith
-few_names (Clone c) = omega arith
-few_names (Unshare c) = omega arith
-few_names (Setns c n) = omega arith
-few_names (WriteMap k c p) = omega arith
-few_names (WriteSetgroups c p) = omega arith
-few_names (ReadMap k c p) = omega arith
-few_names (ReadSetgroups c p) = omega arith
-few_names (SetIds k c i) = omega arith
-few_names (SetGroups c) = omega arith
-few_names (Capable c n number) = omega arith
-few_names (Drop c p e) = omega arith
-few_names (OwnIdsOf c) = omega arith
-few_names (Translate k w c n x) = omega arith
+few (Fork c) = (omega arith, omega arith, omega arith)
+few (Clone c) = (omega arith, omega arith, omega arith)
+few (Unshare c) = (omega arith, omega arith, omega arith)
+few (Setns c n) = (omega arith, omega arith, omega arith)
+few (WriteMap k c p) = (omega arith, omega arith, omega arith)
+few (WriteSetgroups c p) = (omega arith, omega arith, omega arith)
+few (ReadMap k c p) = (omega arith, omega arith, omega arith)
+few (ReadSetgroups c p) = (omega arith, omega arith, omega arith)
+few (SetIds k c i) = (omega arith, omega arith, omega arith)
+few (SetGroups c) = (omega arith, omega arith, omega arith)
+few (Capable c n number) = (omega arith, omega arith, omega arith)
+few (Drop c p e) = (omega arith, omega arith, omega arith)
+few (OwnIdsOf c) = (omega arith, omega arith, omega arith)
+few (Translate k w c n x) = (omega arith, omega arith, omega arith)
+
+pub some_names : (c : Call) → 1 ≤ (form_of c).names
+some_names c = (few c).0
+
+pub few_names : (c : Call) → (form_of c).names ≤ 3
+few_names c = (few c).1
 
 pub few_numbers : (c : Call) → (form_of c).numbers ≤ 3
-unfolding form_of
-few_numbers (Fork c) = omega arith
-few_numbers (Clone c) = omega arith
-few_numbers (Unshare c) = omega arith
-few_numbers (Setns c n) = omega arith
-few_numbers (WriteMap k c p) = omega arith
-few_numbers (WriteSetgroups c p) = omega arith
-few_numbers (ReadMap k c p) = omega arith
-few_numbers (ReadSetgroups c p) = omega arith
-few_numbers (SetIds k c i) = omega arith
-few_numbers (SetGroups c) = omega arith
-few_numbers (Capable c n number) = omega arith
-few_numbers (Drop c p e) = omega arith
-few_numbers (OwnIdsOf c) = omega arith
-few_numbers (Translate k w c n x) = omega arith
+few_numbers c = (few c).2
 
 -- the bytes of which a byte is none, as a match has them where none of its arms is taken
 abbrev pub NoneFrom : Type 0 → ℕ → List Call → Type 0

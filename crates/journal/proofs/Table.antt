@@ -66,7 +66,7 @@ numbers_back c a b e = (listed c).numbers_are a b ∙ tab_all b 0 (form_of c).nu
 -- the template of a byte has it
 with_byte_lem : (b : ℕ) (cs : List Call) (d : Call) → with_byte b cs ≡ Some d → byte_of d ≡ b
 unfolding with_byte
-with_byte_lem b [] d e = absurd (let z : ◌≡◌ {A = ℕ} 0 1 = cc in omega arith)
+with_byte_lem b [] d e = cc
 with_byte_lem b (c ∷ cs) d e =
     by_test (eqb b (byte_of c)) (λ t. let same : Some c ≡ Some d = rw t at e in let is : c ≡ d = cc in rw (← is) (sym (eqb-true b (byte_of c) t)))
     (λ t. with_byte_lem b cs d (rw t at e))

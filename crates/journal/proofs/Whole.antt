@@ -181,12 +181,9 @@ one_by : (l : List ℕ) (x : Reading) → read_journal l ≡ x → (x.ending ≡
     → ((o ≡ 0) × (why ≡ Version) × (x.calls ≡ [])) ⊎ ((o < length l) × (take o l ≡ journal_of x.calls))) → AllWritable x.calls → OneJournal l
 one_by l x e f g w = record { is_journal = rw e f; stops = rw e g; writable = rw e w }
 
-ended_stopped : {o : ℕ} {why : Stop} → stopped o why ≡ ended → ⊥
-ended_stopped e = let z : ◌≡◌ {A = ℕ} 0 1 = cc in omega arith
-
 no_version : (l : List ℕ) → read_journal l ≡ record { calls = []; ending = stopped 0 Version } → OneJournal l
 no_version l e =
-    one_by l (record { calls = []; ending = stopped 0 Version }) e (λ q. absurd (ended_stopped q)) (λ o why q. inl (cc, cc, refl)) tt
+    one_by l (record { calls = []; ending = stopped 0 Version }) e (λ q. cc) (λ o why q. inl (cc, cc, refl)) tt
 
 module _ (l : List ℕ) (bytes : AllBelow 256 (version ∷ l)) where
   abbrev read : Reading

@@ -46,9 +46,6 @@ numbers_fit (Drop c p e) m = search rules
 numbers_fit (OwnIdsOf c) m = search rules
 numbers_fit (Translate k w c n x) m = search rules
 
-refused_length : {e : Errno} {k : ℕ} → Err e ≡ Ok k → ⊥
-refused_length e = let z : ◌≡◌ {A = ℕ} 0 1 = cc in omega arith
-
 module _ (r : Request) (buffer : List ℕ) (at : ℕ) where
   abbrev n : ℕ
   n = length r.buffer
@@ -68,7 +65,7 @@ module _ (r : Request) (buffer : List ℕ) (at : ℕ) where
       → (k : ℕ) → write_of r.call r.text r.list n buffer at ≡ Ok k → Writable r
   unfolding write_of
   written_writable names numbers text list k e =
-      by_test (ltb max_size (length body)) (λ t. absurd (refused_length (rw t at e)))
+      by_test (ltb max_size (length body)) (λ t. let z = rw t at e in cc)
       (λ t.
-      by_test (long_buffer n (form_of r.call).lent) (λ s. absurd (refused_length (rw (t, s) at e)))
+      by_test (long_buffer n (form_of r.call).lent) (λ s. let z = rw (t, s) at e in cc)
       (λ s. ((names, (numbers_fit r.call n).fits numbers s, text, list), ltb-false max_size (length body) t)))

@@ -16,7 +16,6 @@ use Rattle.prelude.specs.Parts.{put_at}
 use Rattle.prelude.proofs.Parts.{length_put}
 use Rattle.tables.specs.declared.answer.Errno.TheVariants.{EINVAL, ERANGE}
 use Rattle.calls.specs.declared.Call.{Call}
-use Rattle.calls.specs.declared.Call.TheVariants.{Fork, Clone, Unshare, Setns, WriteMap, WriteSetgroups, ReadMap, ReadSetgroups, SetIds, SetGroups, Capable, Drop, OwnIdsOf, Translate}
 use Rattle.journal.specs.declared.layout.Lent.{Lent}
 use Rattle.journal.specs.declared.layout.Lent.TheVariants.{Text, Groups}
 use Rattle.journal.specs.declared.layout.Form.{Form}
@@ -24,83 +23,16 @@ use Rattle.journal.specs.Numbers.{big_endian, all_big_endian}
 use Rattle.journal.specs.Layout.{byte_of, form_of, fixed_bytes, names_of, numbers_of, first_three}
 use Rattle.journal.specs.Journal.{tail_of, long_buffer, body_of, record_of, write_of, buffer_by}
 use Rattle.journal.proofs.BigEndian.{length_all}
+use Rattle.journal.proofs.Layouts.{few_names, few_numbers}
+use Rattle.journal.proofs.Table.{listed}
 use Rattle.journal.proofs.Puts.{put_nothing, put_append, put_last, length_number}
-
--- ---- the arguments of a call
-pub names_many : (c : Call) → length (names_of c) ≡ (form_of c).names
-unfolding names_of form_of
-names_many (Fork c) = refl
-names_many (Clone c) = refl
-names_many (Unshare c) = refl
-names_many (Setns c n) = refl
-names_many (WriteMap k c p) = refl
-names_many (WriteSetgroups c p) = refl
-names_many (ReadMap k c p) = refl
-names_many (ReadSetgroups c p) = refl
-names_many (SetIds k c i) = refl
-names_many (SetGroups c) = refl
-names_many (Capable c n number) = refl
-names_many (Drop c p e) = refl
-names_many (OwnIdsOf c) = refl
-names_many (Translate k w c n x) = refl
-
-pub numbers_many : (c : Call) (m : ℕ) → length (numbers_of c m) ≡ (form_of c).numbers
-unfolding numbers_of form_of
-numbers_many (Fork c) m = refl
-numbers_many (Clone c) m = refl
-numbers_many (Unshare c) m = refl
-numbers_many (Setns c n) m = refl
-numbers_many (WriteMap k c p) m = refl
-numbers_many (WriteSetgroups c p) m = refl
-numbers_many (ReadMap k c p) m = refl
-numbers_many (ReadSetgroups c p) m = refl
-numbers_many (SetIds k c i) m = refl
-numbers_many (SetGroups c) m = refl
-numbers_many (Capable c n number) m = refl
-numbers_many (Drop c p e) m = refl
-numbers_many (OwnIdsOf c) m = refl
-numbers_many (Translate k w c n x) m = refl
-
-pub names_first : (c : Call) → take (form_of c).names (first_three (names_of c)) ≡ names_of c
-unfolding names_of form_of
-names_first (Fork c) = refl
-names_first (Clone c) = refl
-names_first (Unshare c) = refl
-names_first (Setns c n) = refl
-names_first (WriteMap k c p) = refl
-names_first (WriteSetgroups c p) = refl
-names_first (ReadMap k c p) = refl
-names_first (ReadSetgroups c p) = refl
-names_first (SetIds k c i) = refl
-names_first (SetGroups c) = refl
-names_first (Capable c n number) = refl
-names_first (Drop c p e) = refl
-names_first (OwnIdsOf c) = refl
-names_first (Translate k w c n x) = refl
-
-pub numbers_first : (c : Call) (m : ℕ) → take (form_of c).numbers (first_three (numbers_of c m)) ≡ numbers_of c m
-unfolding numbers_of form_of
-numbers_first (Fork c) m = refl
-numbers_first (Clone c) m = refl
-numbers_first (Unshare c) m = refl
-numbers_first (Setns c n) m = refl
-numbers_first (WriteMap k c p) m = refl
-numbers_first (WriteSetgroups c p) m = refl
-numbers_first (ReadMap k c p) m = refl
-numbers_first (ReadSetgroups c p) m = refl
-numbers_first (SetIds k c i) m = refl
-numbers_first (SetGroups c) m = refl
-numbers_first (Capable c n number) m = refl
-numbers_first (Drop c p e) m = refl
-numbers_first (OwnIdsOf c) m = refl
-numbers_first (Translate k w c n x) m = refl
 
 -- ---- the lengths of a body and of a record
 names_bytes : (c : Call) → length (all_big_endian 8 (names_of c)) ≡ (form_of c).names * 8
-names_bytes c = length_all 8 (names_of c) ∙ ap (λ (k : ℕ). k * 8) (names_many c)
+names_bytes c = length_all 8 (names_of c) ∙ ap (λ (k : ℕ). k * 8) (listed c).names_long
 
 numbers_bytes : (c : Call) (n : ℕ) → length (all_big_endian 4 (numbers_of c n)) ≡ (form_of c).numbers * 4
-numbers_bytes c n = length_all 4 (numbers_of c n) ∙ ap (λ (k : ℕ). k * 4) (numbers_many c n)
+numbers_bytes c n = length_all 4 (numbers_of c n) ∙ ap (λ (k : ℕ). k * 4) ((listed c).numbers_long n)
 
 pub body_size : (c : Call) (text list : List ℕ) (n : ℕ) → length (body_of c text list n) ≡ fixed_bytes (form_of c) + length (tail_of (form_of c).lent text list)
 unfolding body_of
@@ -119,11 +51,24 @@ record_size c text list n =
 
 -- ---- a record's pieces, stored one behind the other
 -- as many of the arguments as a call has
+take_three : (l : List ℕ) → length l ≤ 3 → take (length l) (first_three l) ≡ l
+take_three [] h = refl
+take_three (x ∷ []) h = refl
+take_three (x ∷ y ∷ []) h = refl
+take_three (x ∷ y ∷ z ∷ []) h = refl
+take_three (x ∷ y ∷ z ∷ w ∷ l) h = absurd (omega arith)
+
 pub names_taken : (c : Call) (r : List ℕ) → r ≡ first_three (names_of c) → map (λ (x : ℕ). x) (take (form_of c).names r) ≡ names_of c
-names_taken c r q = rw q (map-id (take (form_of c).names (first_three (names_of c))) ∙ names_first c)
+names_taken c r q =
+    let few = few_names c in
+    let long = (listed c).names_long in
+    rw q (map-id (take (form_of c).names (first_three (names_of c))) ∙ (rw long at (take_three (names_of c) (omega arith))))
 
 pub numbers_taken : (c : Call) (n : ℕ) (r : List ℕ) → r ≡ first_three (numbers_of c n) → map (λ (x : ℕ). x) (take (form_of c).numbers r) ≡ numbers_of c n
-numbers_taken c n r q = rw q (map-id (take (form_of c).numbers (first_three (numbers_of c n))) ∙ numbers_first c n)
+numbers_taken c n r q =
+    let few = few_numbers c in
+    let long = (listed c).numbers_long n in
+    rw q (map-id (take (form_of c).numbers (first_three (numbers_of c n))) ∙ (rw long at (take_three (numbers_of c n) (omega arith))))
 
 pub taken_long : (k : ℕ) (r l : List ℕ) → k ≤ 3 → r ≡ first_three l → k ≡ length (take k r)
 taken_long k r l h q = sym (length-take-le k r (rw q h))

@@ -35,8 +35,7 @@ pub(crate) fn put_number(buffer: &mut [u8], at: usize, width: usize, x: u64)
     requires { (width ≤ 8) × (at + width ≤ length buffer.old) }
     ensures { buffer.new ≡ put_at buffer.old at (big_endian width x) }
 {
-    let end = at + width;
-    buffer[at..end].copy_from_slice(&x.to_be_bytes()[8 - width..]);
+    buffer[at..at + width].copy_from_slice(&x.to_be_bytes()[8 - width..]);
 }
 
 // Stores numbers of `width` bytes each, one after the other.
@@ -96,6 +95,7 @@ pub(crate) fn load_list(s: &[u8], at: usize, count: usize, list: &mut [u32])
     requires { (at + 4 * count ≤ length s.now) × (count ≤ length list.old) }
     ensures { list.new ≡ put_at list.old 0 (numbers_at 4 count at s.now) }
 {
+    // By index: nothing is known of what a zip over `iter_mut` writes.
     for i in 0..count {
         list[i] = number_at(s, at + NUMBER_BYTES * i);
     }

@@ -48,7 +48,7 @@ impl Stop {
     fn at(self, at: usize) -> Stopped
         ensures { result ≡ stop_at at self }
     {
-        Stopped { at: at, why: self }
+        Stopped { at, why: self }
     }
 }
 
@@ -107,10 +107,7 @@ fn call_in(c: Call, body: &[u8]) -> Call
             name_at(body, FIRST),
             name_at(body, SECOND),
         ),
-        Call::SetIds(kind, _, _) => {
-            let caller = name_at(body, FIRST);
-            Call::SetIds(kind, caller, ids_in(body))
-        }
+        Call::SetIds(kind, _, _) => Call::SetIds(kind, name_at(body, FIRST), ids_in(body)),
         Call::SetGroups(_) => Call::SetGroups(name_at(body, FIRST)),
         Call::Capable(_, _, _) => Call::Capable(
             name_at(body, FIRST),
@@ -187,24 +184,19 @@ fn record_in(at: usize, body: &[u8], c: Call) -> Read
     if size < fixed {
         return Err(Stop::Short.at(at));
     }
-    let f = layout::form_of(c);
-    let lent = f.lent;
+    let lent = layout::form_of(c).lent;
     let rest = size - fixed;
     // And nothing after them.
     if left_over(lent, rest) {
         return Err(Stop::Leftover.at(at));
     }
-    let call = call_in(c, body);
-    let buffer = buffer_length(c, body);
-    let text = text_bytes(lent, rest);
-    let ids = id_count(lent, rest);
     Ok(Some(Record {
-        call: call,
+        call: call_in(c, body),
         tail: at + SIZE_BYTES + fixed,
-        text: text,
-        ids: ids,
-        buffer: buffer,
-        next: next,
+        text: text_bytes(lent, rest),
+        ids: id_count(lent, rest),
+        buffer: buffer_length(c, body),
+        next,
     }))
 }
 
@@ -254,10 +246,7 @@ fn version_then_record(journal: &[u8], at: usize) -> Read
         return record_at(journal, at);
     }
     // A journal begins with its version.
-    if journal.len() == 0 {
-        return Err(Stop::Version.at(0));
-    }
-    if journal[0] != VERSION {
+    if journal.is_empty() || journal[0] != VERSION {
         return Err(Stop::Version.at(0));
     }
     record_at(journal, 1)
