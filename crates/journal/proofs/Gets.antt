@@ -77,6 +77,20 @@ tab_get f zero k i d h = absurd (omega arith)
 tab_get f (suc n) k zero d h = let e : k ≡ k + 0 = omega arith in ap f e
 tab_get f (suc n) k (suc i) d h = let e : suc k + i ≡ k + suc i = omega arith in tab_get f n (suc k) i d (omega arith) ∙ ap f e
 
+tab_past : {A : Type 0} (f : ℕ → A) (n k i : ℕ) (d : A) → n ≤ i → get_or (tab f n k) i d ≡ d
+tab_past f zero k i d h = refl
+tab_past f (suc n) k zero d h = absurd (omega arith)
+tab_past f (suc n) k (suc i) d h = tab_past f n (suc k) i d (omega arith)
+
+-- one of them, and 0 past the last
+pub numbers_get : (w k at i : ℕ) (l : List ℕ) → i < k → get_or (numbers_at w k at l) i 0 ≡ number_at w (at + w * i) l
+numbers_get w k at i l h =
+    let z : 0 + i ≡ i = omega arith in
+    tab_get (λ (j : ℕ). number_at w (at + w * j) l) k 0 i 0 h ∙ ap (λ (j : ℕ). number_at w (at + w * j) l) z
+
+pub numbers_past : (w k at i : ℕ) (l : List ℕ) → k ≤ i → get_or (numbers_at w k at l) i 0 ≡ 0
+numbers_past w k at i l h = tab_past (λ (j : ℕ). number_at w (at + w * j) l) k 0 i 0 h
+
 module _ (a n : ℕ) (s l t : List ℕ) (i : ℕ) where
   -- those that the list is to have at its start
   abbrev vs : List ℕ

@@ -20,25 +20,7 @@ use Rattle.journal.specs.declared.layout.Form.{Form}
 use Rattle.journal.specs.declared.read.Stop.TheVariants.{Version, Cut, Short, UnknownCall, Leftover}
 use Rattle.journal.specs.Numbers.{number_at}
 use Rattle.journal.specs.Layout.{version, template_of, form_by, form_of, fixed_bytes, call_by}
-use Rattle.journal.specs.Reading.{Read, stopped_at, leftover, text_bytes, id_count, buffer_length, three_in, names_in, numbers_in, record_by, body_read, record_at, read_at}
-
--- a call that is lent a buffer has two names, and its length
-pub read_form : (c : Call) → (form_of c).lent ≡ Buffer → form_of c ≡ form_by 2 1 Buffer
-unfolding form_of
-read_form (Fork c) e = cc
-read_form (Clone c) e = cc
-read_form (Unshare c) e = cc
-read_form (Setns c n) e = cc
-read_form (WriteMap k c p) e = cc
-read_form (WriteSetgroups c p) e = cc
-read_form (ReadMap k c p) e = refl
-read_form (ReadSetgroups c p) e = refl
-read_form (SetIds k c i) e = cc
-read_form (SetGroups c) e = cc
-read_form (Capable c n number) e = cc
-read_form (Drop c p e') e = cc
-read_form (OwnIdsOf c) e = cc
-read_form (Translate k w c n x) e = cc
+use Rattle.journal.specs.Reading.{Read, stopped_at, leftover, text_bytes, id_count, buffer_length, names_in, numbers_in, record_by, body_read, record_at, read_at}
 
 -- ---- the record at an offset
 module _ (l : List ℕ) (at : ℕ) where

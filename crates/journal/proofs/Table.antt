@@ -15,7 +15,7 @@ use Rattle.records.specs.declared.Kind.TheVariants.{User, Group}
 use Rattle.credentials.specs.declared.translate.Way.TheVariants.{Out, Back}
 use Rattle.calls.specs.declared.Call.{Call}
 use Rattle.calls.specs.declared.Call.TheVariants.{Fork, Clone, Unshare, Setns, WriteMap, WriteSetgroups, ReadMap, ReadSetgroups, SetIds, SetGroups, Capable, Drop, OwnIdsOf, Translate}
-use Rattle.journal.specs.Layout.{byte_of, templates, with_byte, template_of, form_of, names_of, numbers_of, call_by}
+use Rattle.journal.specs.Layout.{byte_of, templates, with_byte, template_of, form_of, names_of, numbers_of, first_three, call_by}
 use Rattle.journal.specs.Reading.{buffer_length}
 
 -- what the table says of a call
@@ -31,6 +31,8 @@ pub record Listed (c : Call) : Type 0 where
   pub same_byte : (a b : List ℕ) → byte_of (call_by c a b) ≡ byte_of c
   pub same_form : (a b : List ℕ) → form_of (call_by c a b) ≡ form_of c
   pub names_are : (a b : List ℕ) → names_of (call_by c a b) ≡ tab (λ (j : ℕ). get_or a j 0) (form_of c).names 0
+  -- no more than three of each are read
+  pub three : (a b : List ℕ) → call_by c (first_three a) (first_three b) ≡ call_by c a b
   pub numbers_are : (a b : List ℕ) → numbers_of (call_by c a b) (buffer_length (form_of c).lent b) ≡ tab (λ (j : ℕ). get_or b j 0) (form_of c).numbers 0
 
 pub listed : (c : Call) → Listed c
@@ -55,6 +57,9 @@ listed (Translate User Out c n x) = search rules
 listed (Translate User Back c n x) = search rules
 listed (Translate Group Out c n x) = search rules
 listed (Translate Group Back c n x) = search rules
+
+pub by_three : (c : Call) (a b : List ℕ) → call_by c (first_three a) (first_three b) ≡ call_by c a b
+by_three c a b = (listed c).three a b
 
 -- a call with arguments of the right count has these
 pub names_back : (c : Call) (a b : List ℕ) → length a ≡ (form_of c).names → names_of (call_by c a b) ≡ a

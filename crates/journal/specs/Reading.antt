@@ -1,7 +1,6 @@
 -- What reading bytes gives: docs/journal.md, 'Reading'. Assumes nothing.
 use Rattle.std.specs.Prelude.{ℕ, zero, suc, ◌+◌, ◌*◌, ◌-◌, ◌/◌, ◌%◌, Bool, false, cond, List, [], ◌∷◌, eqb, leb, ltb, length, get_or, replicate, Option, Some, None, Result, Ok, Err}
 use Rattle.prelude.specs.Parts.{part, put_at}
-use Rattle.records.specs.declared.Ids.{Ids}
 use Rattle.calls.specs.declared.Call.{Call}
 use Rattle.calls.specs.Calls.{Request}
 use Rattle.journal.specs.declared.layout.Lent.{Lent}
@@ -56,10 +55,6 @@ names_in c body = numbers_at name_bytes (form_of c).names 1 body
 
 abbrev pub numbers_in : Call → List ℕ → List ℕ
 numbers_in c body = numbers_at number_bytes (form_of c).numbers (1 + (form_of c).names * name_bytes) body
-
--- the three numbers after one name, as IDs
-abbrev pub three_in : List ℕ → Ids
-three_in body = record { real = number_at number_bytes 9 body; effective = number_at number_bytes 13 body; saved = number_at number_bytes 17 body }
 
 abbrev pub rest_of : Call → List ℕ → ℕ
 rest_of c body = length body - fixed_bytes (form_of c)

@@ -1,12 +1,12 @@
 // The call bytes, and what a call's record has after its call byte: the table of docs/journal.md. A byte that is given
 // never changes.
 ghost use Rattle.std.specs.Prelude.{◌≡◌};
-ghost use Rattle.journal.specs.Layout.{by_kind, by_way, byte_of, template_of, form_by, form_of, fixed_bytes, names_of, numbers_of, first_three};
+ghost use Rattle.journal.specs.Layout.{by_kind, by_way, byte_of, template_of, form_by, form_of, fixed_bytes, names_of, numbers_of, first_three, call_by};
 
 use crate::{NAME_BYTES, NUMBER_BYTES};
 use calls::Call;
 use credentials::translate::Way;
-use records::{Kind, ZERO_IDS};
+use records::{Ids, Kind, ZERO_IDS};
 
 pub const FORK: u8 = 0x10;
 
@@ -218,5 +218,37 @@ pub fn numbers_of(c: Call, buffer_length: u64) -> [u64; 3]
             u64::from(i.saved),
         ],
         Call::Capable(_, _, x) | Call::Translate(_, _, _, _, x) => [u64::from(x), 0, 0],
+    }
+}
+
+// The call of a template with the names and the other numbers that stand in order in two arrays.
+#[tactic(auto, unfolding(crate::specs::Layout::call_by))]
+pub fn call_by(c: Call, names: &[u64; 3], numbers: &[u32; 3]) -> Call
+    ensures { result ≡ call_by c names.now numbers.now }
+{
+    match c {
+        Call::Fork(_) => Call::Fork(names[0]),
+        Call::Clone(_) => Call::Clone(names[0]),
+        Call::Unshare(_) => Call::Unshare(names[0]),
+        Call::Setns(_, _) => Call::Setns(names[0], names[1]),
+        Call::WriteMap(kind, _, _) => Call::WriteMap(kind, names[0], names[1]),
+        Call::WriteSetgroups(_, _) => Call::WriteSetgroups(names[0], names[1]),
+        Call::ReadMap(kind, _, _) => Call::ReadMap(kind, names[0], names[1]),
+        Call::ReadSetgroups(_, _) => Call::ReadSetgroups(names[0], names[1]),
+        Call::SetIds(kind, _, _) => {
+            let ids = Ids {
+                real: numbers[0],
+                effective: numbers[1],
+                saved: numbers[2],
+            };
+            Call::SetIds(kind, names[0], ids)
+        }
+        Call::SetGroups(_) => Call::SetGroups(names[0]),
+        Call::Capable(_, _, _) => Call::Capable(names[0], names[1], numbers[0]),
+        Call::Drop(_, _, _) => Call::Drop(names[0], names[1], names[2]),
+        Call::OwnIdsOf(_) => Call::OwnIdsOf(names[0]),
+        Call::Translate(kind, way, _, _, _) => Call::Translate(
+            kind, way, names[0], names[1], numbers[0],
+        ),
     }
 }

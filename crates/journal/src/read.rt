@@ -1,14 +1,13 @@
 // The reader: the call of the record at an offset of a journal.
-ghost use Rattle.std.specs.Prelude.{◌≡◌, ◌+◌, ◌*◌, ◌≤◌, ◌<◌, ◌^◌, length, Some};
-ghost use Rattle.journal.specs.Numbers.{number_at};
+ghost use Rattle.std.specs.Prelude.{◌≡◌, ◌+◌, ◌*◌, ◌≤◌, ◌<◌, ◌^◌, length, get_or, Some};
+ghost use Rattle.journal.specs.Numbers.{number_at, numbers_at};
 ghost use Rattle.journal.specs.Layout.{form_of, fixed_bytes, call_by};
-ghost use Rattle.journal.specs.Reading.{leftover, text_bytes, id_count, buffer_length, three_in, names_in, numbers_in, stop_at, record_by, body_read, record_at, read_at, list_after};
+ghost use Rattle.journal.specs.Reading.{leftover, text_bytes, id_count, buffer_length, names_in, numbers_in, stop_at, record_by, body_read, record_at, read_at, list_after};
 
-use crate::layout::Lent;
+use crate::layout::{Form, Lent};
 use crate::numbers::{name_at, number_at};
 use crate::{MAX_IDS, NAME_BYTES, NUMBER_BYTES, SIZE_BYTES, VERSION, layout, numbers};
 use calls::Call;
-use records::Ids;
 
 // Why the reading of a journal stops.
 #[derive(Clone, Copy)]
@@ -55,79 +54,50 @@ impl Stop {
 // What stands at an offset: a record, the journal's end, or a stop.
 pub type Read = Result<Option<Record>, Stopped>;
 
-// Where the names of a record stand after its length, and where its numbers do after one name.
-const FIRST: usize = 1;
-
-const SECOND: usize = FIRST + NAME_BYTES;
-
-const THIRD: usize = SECOND + NAME_BYTES;
-
-const SECOND_NUMBER: usize = SECOND + NUMBER_BYTES;
-
-const THIRD_NUMBER: usize = SECOND_NUMBER + NUMBER_BYTES;
-
-// The three IDs after a record's one name.
-fn ids_in(body: &[u8]) -> Ids
-    requires { 21 ≤ length body.now }
-    ensures { result ≡ three_in body.now }
+// A name of a record, or 0 past the last.
+#[tactic(auto, using(crate::proofs::Gets::numbers_get, crate::proofs::Gets::numbers_past))]
+fn name_in(body: &[u8], form: Form, i: usize) -> u64
+    requires { fixed_bytes form ≤ length body.now }
+    ensures { result ≡ get_or (numbers_at 8 form.names 1 body.now) i 0 }
 {
-    Ids {
-        real: number_at(body, SECOND),
-        effective: number_at(body, SECOND_NUMBER),
-        saved: number_at(body, THIRD_NUMBER),
+    if i < form.names {
+        name_at(body, 1 + NAME_BYTES * i)
+    } else {
+        0
+    }
+}
+
+// Another number of a record, or 0 past the last.
+#[tactic(auto, using(crate::proofs::Gets::numbers_get, crate::proofs::Gets::numbers_past))]
+fn number_in(body: &[u8], form: Form, i: usize) -> u32
+    requires { fixed_bytes form ≤ length body.now }
+    ensures { result ≡ get_or (numbers_at 4 form.numbers (1 + form.names * 8) body.now) i 0 }
+{
+    if i < form.numbers {
+        number_at(body, 1 + form.names * NAME_BYTES + NUMBER_BYTES * i)
+    } else {
+        0
     }
 }
 
 // The call of a template, with the arguments that stand in a record after its length.
-#[tactic(auto, unfolding(crate::specs::Layout::form_of, crate::specs::Layout::call_by))]
+#[tactic(auto, using(crate::proofs::Table::by_three))]
 fn call_in(c: Call, body: &[u8]) -> Call
     requires { fixed_bytes (form_of c) ≤ length body.now }
     ensures { result ≡ call_by c (names_in c body.now) (numbers_in c body.now) }
 {
-    match c {
-        Call::Fork(_) => Call::Fork(name_at(body, FIRST)),
-        Call::Clone(_) => Call::Clone(name_at(body, FIRST)),
-        Call::Unshare(_) => Call::Unshare(name_at(body, FIRST)),
-        Call::Setns(_, _) => Call::Setns(name_at(body, FIRST), name_at(body, SECOND)),
-        Call::WriteMap(kind, _, _) => Call::WriteMap(
-            kind,
-            name_at(body, FIRST),
-            name_at(body, SECOND),
-        ),
-        Call::WriteSetgroups(_, _) => Call::WriteSetgroups(
-            name_at(body, FIRST),
-            name_at(body, SECOND),
-        ),
-        Call::ReadMap(kind, _, _) => Call::ReadMap(
-            kind,
-            name_at(body, FIRST),
-            name_at(body, SECOND),
-        ),
-        Call::ReadSetgroups(_, _) => Call::ReadSetgroups(
-            name_at(body, FIRST),
-            name_at(body, SECOND),
-        ),
-        Call::SetIds(kind, _, _) => Call::SetIds(kind, name_at(body, FIRST), ids_in(body)),
-        Call::SetGroups(_) => Call::SetGroups(name_at(body, FIRST)),
-        Call::Capable(_, _, _) => Call::Capable(
-            name_at(body, FIRST),
-            name_at(body, SECOND),
-            number_at(body, THIRD),
-        ),
-        Call::Drop(_, _, _) => Call::Drop(
-            name_at(body, FIRST),
-            name_at(body, SECOND),
-            name_at(body, THIRD),
-        ),
-        Call::OwnIdsOf(_) => Call::OwnIdsOf(name_at(body, FIRST)),
-        Call::Translate(kind, way, _, _, _) => Call::Translate(
-            kind,
-            way,
-            name_at(body, FIRST),
-            name_at(body, SECOND),
-            number_at(body, THIRD),
-        ),
-    }
+    let form = layout::form_of(c);
+    let names = [
+        name_in(body, form, 0),
+        name_in(body, form, 1),
+        name_in(body, form, 2),
+    ];
+    let numbers = [
+        number_in(body, form, 0),
+        number_in(body, form, 1),
+        number_in(body, form, 2),
+    ];
+    layout::call_by(c, &names, &numbers)
 }
 
 // Whether bytes are left after a record's arguments: of a list those that are no whole ID.
@@ -160,13 +130,13 @@ fn id_count(lent: Lent, rest: usize) -> usize
 }
 
 // The length of a read's buffer, which is its one number.
-#[tactic(auto, using(crate::proofs::Records::read_form))]
 fn buffer_length(c: Call, body: &[u8]) -> u32
     requires { fixed_bytes (form_of c) ≤ length body.now }
     ensures { result ≡ buffer_length (form_of c).lent (numbers_in c body.now) }
 {
-    match layout::form_of(c).lent {
-        Lent::Buffer => number_at(body, THIRD),
+    let form = layout::form_of(c);
+    match form.lent {
+        Lent::Buffer => number_in(body, form, 0),
         Lent::Nothing | Lent::Text | Lent::Groups => 0,
     }
 }
