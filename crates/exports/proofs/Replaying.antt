@@ -4,14 +4,11 @@ use mathlib.Core.Path.{◌≡◌, refl, sym, ap, ◌∙◌}
 use mathlib.Core.List.{List, [], ◌∷◌, ◌++◌}
 use native.Mathlib.Omega.{arith}
 use lib.ListN.{length, get_or, take, replicate}
-use borrow.Author.Rules.{rules}
-use Rattle.std.specs.Prelude.{Some, None, Ok, Err}
 use Rattle.prelude.specs.Parts.{put_at}
 use Rattle.prelude.specs.Lists.{tab}
 use Rattle.prelude.proofs.Made.{tab_same}
 use Rattle.records.specs.Records.{max_groups}
-use Rattle.tables.specs.Reply.{Reply, reply_of, is_refused}
-use Rattle.tables.specs.declared.answer.Answer.{Answer}
+use Rattle.tables.specs.Reply.{Reply, is_refused}
 use Rattle.tables.specs.declared.answer.Answer.TheVariants.{Refused, Done, Child, ChildIn, NewNamespace, Yes, No, Length, Id, Unmapped}
 use Rattle.credentials.specs.declared.own.OwnIds.{OwnIds}
 use Rattle.credentials.specs.Calls.{group_list}
@@ -20,12 +17,8 @@ use Rattle.calls.specs.declared.CallAnswer.{CallAnswer}
 use Rattle.calls.specs.declared.CallAnswer.TheVariants.{Plain, Own}
 use Rattle.calls.specs.declared.Response.{Response}
 use Rattle.calls.specs.Calls.{Step, reply_beside, call_reply, listed_ids, CallPromise}
-use Rattle.journal.specs.declared.read.Stopped.{Stopped}
-use Rattle.journal.specs.declared.read.Record.{Record}
-use Rattle.journal.specs.Layout.{byte_of, names_of, numbers_of, first_three}
-use Rattle.journal.specs.Reading.{Read}
-use Rattle.exports.specs.Codes.{code_of, space_after, ids_row, own_width}
-use Rattle.exports.specs.Replay.{stop_number, found_words, plain_words, read_words, ids_after, response_code, response_ids, CodedStep}
+use Rattle.exports.specs.Codes.{code_of, ids_row, own_width}
+use Rattle.exports.specs.Replay.{ids_after, response_code, response_ids, CodedStep}
 
 -- ---- own IDs, in a response that has no others than its reply lists
 -- places past the last are 0

@@ -1,27 +1,25 @@
 -- A record that was found lies within its journal. Assumes nothing.
 use Prim.Native.Nat.{ℕ, ◌+◌, ◌*◌, ◌-◌, ◌≤◌, ◌<◌}
-use mathlib.Core.Path.{◌≡◌, refl, sym, ap, ◌∙◌}
+use mathlib.Core.Path.{◌≡◌, refl, ap}
 use mathlib.Core.Bool.{false}
 use mathlib.Core.List.{List, [], ◌∷◌}
 use native.Mathlib.Omega.{arith}
 use lib.Dec.{eqb, leb, ltb}
 use lib.ListN.{length, get_or}
-use borrow.Author.Rules.{rules}
 use borrow.Author.Tests.{ltb-true, ltb-false, leb-false, eqb-false}
-use Rattle.std.specs.Prelude.{Option, Some, None, Ok, Err}
-use Rattle.prelude.specs.Parts.{part, put_at}
+use Rattle.std.specs.Prelude.{Option, Some, None, Ok}
+use Rattle.prelude.specs.Parts.{part}
 use Rattle.prelude.proofs.Tests.{by_test}
 use Rattle.prelude.proofs.Parts.{length_part}
 use Rattle.prelude.proofs.Made.{tab_all}
 use Rattle.calls.specs.declared.Call.{Call}
 use Rattle.journal.specs.declared.layout.Lent.{Lent}
 use Rattle.journal.specs.declared.layout.Lent.TheVariants.{Nothing, Text, Groups, Buffer}
-use Rattle.journal.specs.declared.read.Stop.{Stop}
 use Rattle.journal.specs.declared.read.Record.{Record}
-use Rattle.journal.specs.Numbers.{number_from, number_at, numbers_at}
+use Rattle.journal.specs.Numbers.{number_from, number_at}
 use Rattle.journal.specs.Layout.{version, template_of, form_of, fixed_bytes}
 use Rattle.journal.proofs.Layouts.{some_names}
-use Rattle.journal.specs.Reading.{Read, stopped_at, leftover, text_bytes, id_count, rest_of, record_in, record_by, record_at, read_at, list_after}
+use Rattle.journal.specs.Reading.{leftover, text_bytes, id_count, rest_of, record_in, record_by, record_at, read_at}
 
 -- ---- what the tests say of a record that was found
 -- body is what it has after its length, and c the template of its call

@@ -1,17 +1,13 @@
 -- What the table of calls has of each. Assumes nothing.
-use Prim.Native.Nat.{ℕ, ◌+◌, ◌*◌, ◌≤◌}
-use mathlib.Core.Path.{◌≡◌, refl, sym, ap, ◌∙◌}
+use Prim.Native.Nat.{ℕ, ◌≤◌}
+use mathlib.Core.Path.{◌≡◌, refl}
 use mathlib.Core.List.{List, [], ◌∷◌}
 use borrow.Author.Tests.{ne_eqb}
 use native.Mathlib.Omega.{arith}
-use borrow.Author.Rules.{rules}
-use Rattle.std.specs.Prelude.{Option, None}
-use Rattle.records.specs.declared.Kind.{Kind}
-use Rattle.credentials.specs.declared.translate.Way.{Way}
+use Rattle.std.specs.Prelude.{None}
 use Rattle.calls.specs.declared.Call.{Call}
 use Rattle.calls.specs.declared.Call.TheVariants.{Fork, Clone, Unshare, Setns, WriteMap, WriteSetgroups, ReadMap, ReadSetgroups, SetIds, SetGroups, Capable, Drop, OwnIdsOf, Translate}
-use Rattle.journal.specs.declared.layout.Form.{Form}
-use Rattle.journal.specs.Layout.{by_kind, by_way, byte_of, templates, with_byte, template_of, form_of, fixed_bytes, names_of, numbers_of, first_three}
+use Rattle.journal.specs.Layout.{byte_of, templates, with_byte, template_of, form_of}
 
 -- a call has one to three names, and at most three numbers
 few : (c : Call) → (1 ≤ (form_of c).names) × ((form_of c).names ≤ 3) × ((form_of c).numbers ≤ 3)

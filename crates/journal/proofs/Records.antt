@@ -1,26 +1,14 @@
 -- What the reader's tests say of a record. Assumes nothing.
 use Prim.Native.Nat.{ℕ, ◌+◌, ◌-◌, ◌≤◌, ◌<◌}
-use mathlib.Core.Path.{◌≡◌, refl, sym, ap, ◌∙◌}
-use mathlib.Core.Bool.{Bool, true, false}
+use mathlib.Core.Path.{◌≡◌}
 use mathlib.Core.List.{List}
-use native.Mathlib.Omega.{arith}
-use lib.Dec.{leb}
-use lib.ListN.{length, get_or, take, drop}
-use borrow.Author.Rules.{rules}
-use borrow.Author.Tests.{lt-ltb, le-ltb, le-leb, lt-leb, leb-true, eq-eqb, ne_eqb}
-use Rattle.std.specs.Prelude.{Option, Some, None, Ok}
+use lib.ListN.{length}
+use borrow.Author.Tests.{lt-ltb, le-ltb, le-leb, lt-leb, ne_eqb}
+use Rattle.std.specs.Prelude.{None, Ok}
 use Rattle.prelude.specs.Parts.{part}
-use Rattle.prelude.proofs.Parts.{part_range, length_part}
-use Rattle.records.specs.declared.Ids.{Ids}
-use Rattle.calls.specs.declared.Call.{Call}
-use Rattle.calls.specs.declared.Call.TheVariants.{Fork, Clone, Unshare, Setns, WriteMap, WriteSetgroups, ReadMap, ReadSetgroups, SetIds, SetGroups, Capable, Drop, OwnIdsOf, Translate}
-use Rattle.journal.specs.declared.layout.Lent.{Lent}
-use Rattle.journal.specs.declared.layout.Lent.TheVariants.{Nothing, Text, Groups, Buffer}
-use Rattle.journal.specs.declared.layout.Form.{Form}
-use Rattle.journal.specs.declared.read.Stop.TheVariants.{Version, Cut, Short, UnknownCall, Leftover}
+use Rattle.journal.specs.declared.read.Stop.TheVariants.{Cut}
 use Rattle.journal.specs.Numbers.{number_at}
-use Rattle.journal.specs.Layout.{version, template_of, form_by, form_of, fixed_bytes, call_by}
-use Rattle.journal.specs.Reading.{Read, stopped_at, leftover, text_bytes, id_count, buffer_length, names_in, numbers_in, record_by, body_read, record_at, read_at}
+use Rattle.journal.specs.Reading.{Read, stopped_at, body_read, record_at}
 
 -- ---- the record at an offset
 module _ (l : List ℕ) (at : ℕ) where

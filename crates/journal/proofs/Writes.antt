@@ -1,27 +1,17 @@
 -- What the writer stores, piece by piece. Assumes nothing.
-use Prim.Native.Nat.{ℕ, suc, ◌+◌, ◌*◌, ◌-◌, ◌≤◌, ◌<◌, ◌^◌}
+use Prim.Native.Nat.{ℕ, ◌+◌, ◌*◌, ◌≤◌, ◌<◌}
 use mathlib.Core.Path.{◌≡◌, refl, sym, ap, ◌∙◌}
-use mathlib.Core.Bool.{Bool, true, false}
 use mathlib.Core.List.{List, [], ◌∷◌, ◌++◌, map, append_assoc}
 use Rattle.std.proofs.lemmas.List.{map-id}
 use native.Mathlib.Omega.{arith}
-use native.Mathlib.Nat.{zero-mul, suc-mul}
-use lib.Dec.{ltb}
 use lib.Seq.{length-take-le}
 use lib.ListN.{length, set, length-set, take, length-append}
-use borrow.Author.Rules.{rules}
-use borrow.Author.Tests.{lt-ltb, le-ltb}
-use Rattle.std.specs.Prelude.{Ok, Err}
 use Rattle.prelude.specs.Parts.{put_at}
 use Rattle.prelude.proofs.Parts.{length_put}
-use Rattle.tables.specs.declared.answer.Errno.TheVariants.{EINVAL, ERANGE}
 use Rattle.calls.specs.declared.Call.{Call}
-use Rattle.journal.specs.declared.layout.Lent.{Lent}
-use Rattle.journal.specs.declared.layout.Lent.TheVariants.{Text, Groups}
-use Rattle.journal.specs.declared.layout.Form.{Form}
 use Rattle.journal.specs.Numbers.{big_endian, all_big_endian}
 use Rattle.journal.specs.Layout.{byte_of, form_of, fixed_bytes, names_of, numbers_of, first_three}
-use Rattle.journal.specs.Journal.{tail_of, long_buffer, body_of, record_of, write_of, buffer_by}
+use Rattle.journal.specs.Journal.{tail_of, body_of, record_of}
 use Rattle.journal.proofs.BigEndian.{length_all}
 use Rattle.journal.proofs.Layouts.{few_names, few_numbers}
 use Rattle.journal.proofs.Table.{listed}

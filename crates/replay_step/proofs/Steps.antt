@@ -5,8 +5,6 @@ use mathlib.Core.List.{List, ◌++◌}
 use native.Mathlib.Omega.{arith}
 use lib.Dec.{leb}
 use lib.ListN.{length, take, drop, drop_of_length-le}
-use lib.Seq.{length-take-le}
-use borrow.Author.Rules.{rules}
 use borrow.Author.Tests.{leb-true, leb-false}
 use Rattle.std.specs.Prelude.{Some, None, Ok, Err}
 use Rattle.prelude.specs.Parts.{part, put_at}
@@ -25,7 +23,7 @@ use Rattle.journal.specs.declared.read.Record.{Record}
 use Rattle.journal.specs.Reading.{Read, read_at, list_after, ids_at}
 use Rattle.journal.proofs.Gets.{length_tab}
 use Rattle.journal.proofs.Inside.{found_inside}
-use Rattle.replay_step.specs.Replay.{behind, made_of, replay_of, Unchanged}
+use Rattle.replay_step.specs.Replay.{behind, made_of, replay_of}
 
 -- ---- the buffer behind what is lent of it
 drop_min : (k : ℕ) (l : List ℕ) → drop (min k (length l)) l ≡ drop k l
