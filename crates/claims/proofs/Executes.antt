@@ -3,13 +3,13 @@ use Prim.Native.Nat.{ℕ}
 use mathlib.Core.Path.{◌≡◌, refl, sym, ap, ◌∙◌}
 use mathlib.Core.List.{List, [], ◌∷◌, ◌++◌}
 use lib.ListN.{length}
+use Rattle.std.specs.Prelude.{Some, Ok}
 use Rattle.tables.specs.Tables.{State, tables_of, initial_tables}
 use Rattle.tables.specs.Reply.{Reply}
 use Rattle.hierarchy.specs.Walks.{Translation}
 use Rattle.hierarchy.specs.KernelStarts.{by_kernel_starts}
 use Rattle.calls.specs.Calls.{Request, Step, call_reply}
 use Rattle.journal.specs.declared.read.Record.{Record}
-use Rattle.journal.specs.declared.read.Read.TheVariants.{Found}
 use Rattle.journal.specs.Reading.{read_at, request_at}
 use Rattle.replay_step.specs.Replay.{max_read, replay_of}
 use Rattle.exports.specs.Replay.{step_at}
@@ -62,7 +62,7 @@ link a b after h r reply c f o =
     }
 
 -- one record more of a journal
-record_link : (a b : List ℕ) (h : List Entry) (r : Record) (reply : Reply) → Chain a h → (l lent : List ℕ) (at : ℕ) → read_at l at ≡ Found r
+record_link : (a b : List ℕ) (h : List Entry) (r : Record) (reply : Reply) → Chain a h → (l lent : List ℕ) (at : ℕ) → read_at l at ≡ Ok (Some r)
     → length lent ≡ max_read → reply ≡ (replay_of (tables_of a) l (read_at l at) lent).reply → tables_of b ≡ (replay_of (tables_of a) l (read_at l at) lent).tables
     → Chain b (record { request = request_at l r; reply = reply; buffer = (step_of by_kernel_starts (tables_of a) (request_at l r)).buffer } ∷ h)
 record_link a b h r reply c l lent at found full e t =

@@ -6,6 +6,7 @@ use mathlib.Core.Path.{◌≡◌, refl, ap, ◌∙◌}
 use mathlib.Core.List.{List}
 use native.Mathlib.Omega.{arith}
 use lib.ListN.{length}
+use Rattle.std.specs.Prelude.{Some, None, Ok, Err}
 use Rattle.prelude.specs.Lists.{tab}
 use Rattle.idmap.specs.Good.{max_lines}
 use Rattle.records.specs.declared.IdMap.{IdMap}
@@ -18,9 +19,7 @@ use Rattle.calls.specs.Calls.{Request, Step}
 use Rattle.journal.specs.Numbers.{number_at}
 use Rattle.journal.specs.Layout.{form_of, call_by}
 use Rattle.journal.specs.declared.read.Record.{Record}
-use Rattle.journal.specs.declared.read.Read.{Read}
-use Rattle.journal.specs.declared.read.Read.TheVariants.{Found, End, Stopped}
-use Rattle.journal.specs.Reading.{Reading, names_in, numbers_in, read_at, request_at, go_on, read_from}
+use Rattle.journal.specs.Reading.{Read, Reading, names_in, numbers_in, read_at, request_at, go_on, read_from}
 use Rattle.journal.proofs.BigEndian.{id_below}
 use Rattle.journal.proofs.Inside.{found_from, found_at}
 use Rattle.replay_step.specs.Replay.{max_read, replay_of, FewLines, SameAnswer}
@@ -54,7 +53,7 @@ unfolding AllSmall
 ids_small l at zero i = tt
 ids_small l at (suc n) i = (id_below (at + 4 * i) l, ids_small l at n (suc i))
 
-pub read_fits : (l : List ℕ) (at : ℕ) (r : Record) → read_at l at ≡ Found r → Fits (request_at l r)
+pub read_fits : (l : List ℕ) (at : ℕ) (r : Record) → read_at l at ≡ Ok (Some r) → Fits (request_at l r)
 read_fits l at r e =
     let f = found_from l at r e in
     let b = (found_at l f.0 r f.3).in_body in
@@ -63,9 +62,9 @@ read_fits l at r e =
 
 on_fits : (l : List ℕ) (at : ℕ) (x : Read) → read_at l at ≡ x → (rest : ℕ → Reading) → ((next : ℕ) → AllFit (rest next).calls) → AllFit (go_on l x rest).calls
 unfolding AllFit
-on_fits l at (Found r) e rest h = (read_fits l at r e, h r.next)
-on_fits l at End e rest h = tt
-on_fits l at (Stopped o why) e rest h = tt
+on_fits l at (Ok (Some r)) e rest h = (read_fits l at r e, h r.next)
+on_fits l at (Ok None) e rest h = tt
+on_fits l at (Err s) e rest h = tt
 
 pub from_fits : (n : ℕ) (l : List ℕ) (at : ℕ) → AllFit (read_from n l at).calls
 unfolding read_from AllFit
@@ -81,7 +80,7 @@ few_lines : (rs : List Request) → Bounds rs → FewLines (run rs)
 few_lines rs b k n = let m = map_in k (namespace_at (run rs) n) in few_by m.state m refl (λ c e. b.line_counts k n c e)
 
 -- ---- the step that replays it, on an array a that calls have left
-module _ (l a lent : List ℕ) (at : ℕ) (rs : List Request) (r : Record) (are : tables_of a ≡ run rs) (fit : AllFit rs) (found : read_at l at ≡ Found r)
+module _ (l a lent : List ℕ) (at : ℕ) (rs : List Request) (r : Record) (are : tables_of a ≡ run rs) (fit : AllFit rs) (found : read_at l at ≡ Ok (Some r))
     (full : length lent ≡ max_read) where
   abbrev q : Request
   q = request_at l r
@@ -92,7 +91,7 @@ module _ (l a lent : List ℕ) (at : ℕ) (rs : List Request) (r : Record) (are 
   document : step_of by_kernel_starts (tables_of a) q ≡ step_of by_levels (run rs) q
   document = ap (λ (s : State). step_of by_kernel_starts s q) are ∙ (as_document rs fit).step q
 
-  here : replay_of (tables_of a) l (read_at l at) lent ≡ replay_of (tables_of a) l (Found r) lent
+  here : replay_of (tables_of a) l (read_at l at) lent ≡ replay_of (tables_of a) l (Ok (Some r)) lent
   here = ap (λ (x : Read). replay_of (tables_of a) l x lent) found
 
   -- its reply and its tables are those of the request

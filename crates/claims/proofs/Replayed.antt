@@ -4,14 +4,13 @@ use mathlib.Core.Path.{◌≡◌, refl, sym, ap, ◌∙◌}
 use mathlib.Core.List.{List, [], ◌∷◌, ◌++◌, map, append_assoc, append-nil}
 use native.Mathlib.Omega.{arith}
 use lib.ListN.{length}
+use Rattle.std.specs.Prelude.{Some, None, Ok, Err}
 use Rattle.tables.specs.Tables.{tables_of, initial_tables}
 use Rattle.tables.specs.Reply.{Reply}
 use Rattle.calls.specs.declared.Response.{Response}
 use Rattle.calls.specs.Calls.{Request, call_reply, CallPromise, Step}
 use Rattle.journal.specs.declared.read.Record.{Record}
-use Rattle.journal.specs.declared.read.Read.{Read}
-use Rattle.journal.specs.declared.read.Read.TheVariants.{Found, End, Stopped}
-use Rattle.journal.specs.Reading.{Reading, read_at, request_at, go_on, read_from, read_journal}
+use Rattle.journal.specs.Reading.{Read, Reading, read_at, request_at, go_on, read_from, read_journal}
 use Rattle.journal.proofs.Inside.{found_inside}
 use Rattle.replay_step.specs.Replay.{max_read, replay_of}
 use Rattle.claims.specs.Translation.{by_levels}
@@ -42,7 +41,7 @@ start l a e = record { tables = e; told = refl; fit = tt; n = suc (length l); en
 
 -- one step more
 module _ (l a b after lent : List ℕ) (at : ℕ) (rs : List Request) (replies : List Reply) (r : Record) (response : Response) (c : Chain l a at rs replies)
-    (found : read_at l at ≡ Found r) (full : length lent ≡ max_read) (p : CallPromise response a b after (replay_of (tables_of a) l (read_at l at) lent)) where
+    (found : read_at l at ≡ Ok (Some r)) (full : length lent ≡ max_read) (p : CallPromise response a b after (replay_of (tables_of a) l (read_at l at) lent)) where
   abbrev q : Request
   q = request_at l r
 
@@ -75,12 +74,12 @@ chain l b next qs told (stepped {a = a} {after = after} {at = at} {rs = rs} {rep
     let c = chain l a at rs replies x in link_by l a b after lent at rs replies r response c found full p c.n refl
 
 -- where no record is found, nothing is left
-none_left : (l : List ℕ) (at : ℕ) (x : Read) → read_at l at ≡ x → ((r : Record) → read_at l at ≡ Found r → ⊥) → (rest : ℕ → Reading) → (go_on l x rest).calls ≡ []
-none_left l at (Found r) e none rest = absurd (none r e)
-none_left l at End e none rest = refl
-none_left l at (Stopped o why) e none rest = refl
+none_left : (l : List ℕ) (at : ℕ) (x : Read) → read_at l at ≡ x → ((r : Record) → read_at l at ≡ Ok (Some r) → ⊥) → (rest : ℕ → Reading) → (go_on l x rest).calls ≡ []
+none_left l at (Ok (Some r)) e none rest = absurd (none r e)
+none_left l at (Ok None) e none rest = refl
+none_left l at (Err s) e none rest = refl
 
-from_none : (n : ℕ) (l : List ℕ) (at : ℕ) → ((r : Record) → read_at l at ≡ Found r → ⊥) → (read_from n l at).calls ≡ []
+from_none : (n : ℕ) (l : List ℕ) (at : ℕ) → ((r : Record) → read_at l at ≡ Ok (Some r) → ⊥) → (read_from n l at).calls ≡ []
 unfolding read_from
 from_none zero l at none = refl
 from_none (suc n) l at none = none_left l at (read_at l at) refl none (λ (next : ℕ). read_from n l next)

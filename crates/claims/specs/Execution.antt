@@ -1,7 +1,7 @@
 -- What a host has and sees that keeps its tables by this code alone, call after call, through the entry point, through
 -- exported functions or by replaying journals: document 01's run of these calls. `executes` of proofs/Executes.antt
 -- proves it. Assumes nothing.
-use Rattle.std.specs.Prelude.{ℕ, ◌-◌, ◌≡◌, true, cond, List, [], ◌∷◌, ◌++◌, length, replicate}
+use Rattle.std.specs.Prelude.{ℕ, ◌-◌, ◌≡◌, true, cond, List, [], ◌∷◌, ◌++◌, length, replicate, Some, Ok}
 use Rattle.prelude.specs.Parts.{put_at}
 use Rattle.tables.specs.Tables.{tables_of, initial_tables}
 use Rattle.tables.specs.Reply.{Reply, Outcome, is_refused}
@@ -15,7 +15,6 @@ use Rattle.calls.specs.declared.Call.{Call}
 use Rattle.calls.specs.declared.Call.TheVariants.{Fork, Clone, Unshare, Setns, WriteMap, WriteSetgroups, ReadMap, ReadSetgroups, SetIds, SetGroups, Capable, Drop, OwnIdsOf, Translate}
 use Rattle.calls.specs.Calls.{Request, Step, call_reply, listed_in, CallPromise}
 use Rattle.journal.specs.declared.read.Record.{Record}
-use Rattle.journal.specs.declared.read.Read.TheVariants.{Found}
 use Rattle.journal.specs.Reading.{read_at, request_at}
 use Rattle.replay_step.specs.Replay.{max_read, replay_of}
 use Rattle.exports.specs.Codes.{code_of, Coded, CodedRead, own_width, CodedIds}
@@ -90,7 +89,7 @@ pub data Execution : List ℕ → List Entry → Type 0 where
   -- the call of a record of a journal l, through `replay_step::step`, with what it promises of the buffer lent to it.
   -- The entry has the buffer that the record says, of which the bytes read are the lent one's (`SameAnswer`)
   replayed : {a b after : List ℕ} {h : List Entry} {r : Record} {response : Response} → Execution a h → (l lent : List ℕ) (at : ℕ)
-      → read_at l at ≡ Found r → length lent ≡ max_read → CallPromise response a b after (replay_of (tables_of a) l (read_at l at) lent)
+      → read_at l at ≡ Ok (Some r) → length lent ≡ max_read → CallPromise response a b after (replay_of (tables_of a) l (read_at l at) lent)
       → Execution b (record {
         request = request_at l r;
         reply = call_reply response;
@@ -98,7 +97,7 @@ pub data Execution : List ℕ → List Entry → Type 0 where
       } ∷ h)
   -- the same through `oarhatchet_replay`, whose number is that of this reply
   replayed_export : {a b after : List ℕ} {h : List Entry} {r : Record} → Execution a h → (l lent : List ℕ) (at code : ℕ)
-      → read_at l at ≡ Found r → length lent ≡ max_read → CodedStep code a b after (step_at a l at lent)
+      → read_at l at ≡ Ok (Some r) → length lent ≡ max_read → CodedStep code a b after (step_at a l at lent)
       → Execution b (record {
         request = request_at l r;
         reply = (step_at a l at lent).reply;

@@ -1,3 +1,2 @@
-pub mod Coding
-pub mod Recording
+pub mod Storing
 pub mod Replaying

@@ -4,13 +4,11 @@ use mathlib.Core.Path.{◌≡◌, refl, sym, ap, ◌∙◌}
 use mathlib.Core.List.{List, [], ◌∷◌, ◌++◌}
 use native.Mathlib.Omega.{arith}
 use lib.ListN.{length, get_or, take, replicate}
-use borrow.Author.Rules.{rules}
 use Rattle.prelude.specs.Parts.{put_at}
 use Rattle.prelude.specs.Lists.{tab}
 use Rattle.prelude.proofs.Made.{tab_same}
 use Rattle.records.specs.Records.{max_groups}
-use Rattle.tables.specs.Reply.{Reply, reply_of, is_refused}
-use Rattle.tables.specs.declared.answer.Answer.{Answer}
+use Rattle.tables.specs.Reply.{Reply, is_refused}
 use Rattle.tables.specs.declared.answer.Answer.TheVariants.{Refused, Done, Child, ChildIn, NewNamespace, Yes, No, Length, Id, Unmapped}
 use Rattle.credentials.specs.declared.own.OwnIds.{OwnIds}
 use Rattle.credentials.specs.Calls.{group_list}
@@ -19,54 +17,8 @@ use Rattle.calls.specs.declared.CallAnswer.{CallAnswer}
 use Rattle.calls.specs.declared.CallAnswer.TheVariants.{Plain, Own}
 use Rattle.calls.specs.declared.Response.{Response}
 use Rattle.calls.specs.Calls.{Step, reply_beside, call_reply, listed_ids, CallPromise}
-use Rattle.journal.specs.declared.read.Stop.{Stop}
-use Rattle.journal.specs.declared.read.Record.{Record}
-use Rattle.journal.specs.declared.read.Read.{Read}
-use Rattle.journal.specs.declared.read.Read.TheVariants.{Found, End, Stopped}
-use Rattle.journal.specs.Layout.{byte_of, names_of, numbers_of, first_three}
-use Rattle.exports.specs.Codes.{code_of, space_after, ids_row, own_width}
-use Rattle.exports.specs.Replay.{stop_number, found_words, plain_words, read_words, ids_after, response_code, response_ids, CodedStep}
-
--- ---- the words of what stands at an offset
-pub found_is : (r : Record) (namespace byte : ℕ) (names numbers : List ℕ) → byte ≡ byte_of r.call → names ≡ first_three (names_of r.call)
-    → numbers ≡ first_three (numbers_of r.call r.buffer)
-    → byte ∷ get_or names 0 0 ∷ get_or names 1 0 ∷ get_or names 2 0 ∷ get_or numbers 0 0 ∷ get_or numbers 1 0 ∷ get_or numbers 2 0 ∷ r.tail ∷ r.text ∷ r.ids ∷ r.next ∷ namespace ∷ [] ≡ found_words r namespace
-found_is r namespace byte names numbers p q s = rw (p, q, s)
-
-module _ (read : Read) (at namespace : ℕ) (w : List ℕ) where
-  pub words_found : (r : Record) → read ≡ Found r → w ≡ found_words r namespace → w ≡ read_words read at namespace
-  words_found r e p = rw e p
-
-  pub words_end : read ≡ End → w ≡ plain_words 0 at → w ≡ read_words read at namespace
-  words_end e p = rw e p
-
-  pub words_stopped : (o n : ℕ) (why : Stop) → read ≡ Stopped o why → n ≡ stop_number why → w ≡ plain_words n o → w ≡ read_words read at namespace
-  words_stopped o n why e q p = rw e (p ∙ ap (λ (x : ℕ). plain_words x o) q)
-
-pub ruleset wording = (found_is, words_found, words_end, words_stopped, rules)
-
--- ---- the parts of a response
-module _ (r : Response) (a : Answer) (e : r.answer ≡ Plain a) where
-  pub space_plain : (n : ℕ) → n ≡ space_after (reply_of a) 0 → n ≡ space_after (call_reply r) 0
-  space_plain n p = rw e p
-
-  pub code_plain : (n : ℕ) → n ≡ code_of (reply_of a) → n ≡ response_code r.answer r.ids
-  code_plain n p = rw e p
-
-  pub ids_plain : (l : List ℕ) → l ≡ response_ids r.answer r.ids l
-  ids_plain l = rw e
-
-module _ (r : Response) (e : r.answer ≡ Own) where
-  pub space_own : 0 ≡ space_after (call_reply r) 0
-  space_own = rw e
-
-  pub code_own : r.ids.supplementary.count ≡ response_code r.answer r.ids
-  code_own = rw e
-
-  pub ids_own : (l l' row : List ℕ) → row ≡ ids_row r.ids → l' ≡ put_at l 0 row → l' ≡ response_ids r.answer r.ids l
-  ids_own l l' row p q = rw e (q ∙ ap (put_at l 0) p)
-
-pub ruleset responding = (space_plain, code_plain, ids_plain, space_own, code_own, ids_own, rules)
+use Rattle.exports.specs.Codes.{code_of, ids_row, own_width}
+use Rattle.exports.specs.Replay.{ids_after, response_code, response_ids, CodedStep}
 
 -- ---- own IDs, in a response that has no others than its reply lists
 -- places past the last are 0
@@ -135,8 +87,3 @@ module _ (r : Response) (entry exit after : List ℕ) (o : Step) (p : CallPromis
 
   pub step_ids : (l l' : List ℕ) → l' ≡ response_ids r.answer r.ids l → l' ≡ ids_after o.reply l
   step_ids l l' e = e ∙ response_ids_lem r.answer r.ids l listed ∙ ap (λ (x : Reply). ids_after x l) reply_is
-
-  pub step_words : (read found : Read) (at n : ℕ) (w : List ℕ) → found ≡ read → n ≡ space_after (call_reply r) 0 → w ≡ read_words found at n → w ≡ read_words read at (space_after o.reply 0)
-  step_words read found at n w e q h = h ∙ rw (e, q, reply_is)
-
-pub ruleset replaying = (step_coded, step_ids, step_words, rules)

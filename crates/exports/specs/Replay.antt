@@ -1,5 +1,5 @@
 -- What stands at an offset of a journal, and what its call comes to, as numbers. Assumes nothing.
-use Rattle.std.specs.Prelude.{ℕ, ◌≡◌, true, List, [], ◌∷◌, ◌++◌, get_or}
+use Rattle.std.specs.Prelude.{ℕ, ◌≡◌, true, List, [], ◌∷◌, ◌++◌, get_or, Some, None, Ok, Err}
 use Rattle.prelude.specs.Parts.{put_at}
 use Rattle.prelude.specs.Lists.{tab}
 use Rattle.tables.specs.Tables.{tables_of}
@@ -11,10 +11,8 @@ use Rattle.calls.specs.Calls.{Step}
 use Rattle.journal.specs.declared.read.Stop.{Stop}
 use Rattle.journal.specs.declared.read.Stop.TheVariants.{Version, Cut, Short, UnknownCall, Leftover}
 use Rattle.journal.specs.declared.read.Record.{Record}
-use Rattle.journal.specs.declared.read.Read.{Read}
-use Rattle.journal.specs.declared.read.Read.TheVariants.{Found, End, Stopped}
 use Rattle.journal.specs.Layout.{byte_of, names_of, numbers_of, first_three}
-use Rattle.journal.specs.Reading.{read_at}
+use Rattle.journal.specs.Reading.{Read, read_at}
 use Rattle.replay_step.specs.Replay.{replay_of}
 use Rattle.exports.specs.Codes.{code_of, ids_row, own_width}
 
@@ -40,9 +38,9 @@ plain_words what offset = what ∷ 0 ∷ 0 ∷ 0 ∷ 0 ∷ 0 ∷ 0 ∷ 0 ∷ 0 �
 
 -- the journal's end is 0, with the offset asked for, and a stop its reason, with the offset of the bad record
 abbrev pub read_words : Read → ℕ → ℕ → List ℕ
-read_words (Found r) at namespace = found_words r namespace
-read_words End at namespace = plain_words 0 at
-read_words (Stopped offset why) at namespace = plain_words (stop_number why) offset
+read_words (Ok (Some r)) at namespace = found_words r namespace
+read_words (Ok None) at namespace = plain_words 0 at
+read_words (Err s) at namespace = plain_words (stop_number s.why) s.at
 
 -- ---- what its call comes to
 -- the step at an offset of a journal: `done`, and nothing changed, where there is no call

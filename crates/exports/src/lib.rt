@@ -244,13 +244,12 @@ pub(crate) fn row(own: OwnIds) -> [u32; OWN_WORDS]
 }
 
 // Stores words at the start of a buffer that has room for them.
+#[tactic(auto, using(crate::proofs::Storing::put_start))]
 pub(crate) fn store(buffer: &mut [u32], words: &[u32])
     requires { length words.now ≤ length buffer.old }
     ensures { buffer.new ≡ put_at buffer.old 0 words.now }
 {
-    for i in 0..words.len() {
-        buffer[i] = words[i];
-    }
+    buffer[..words.len()].copy_from_slice(words);
 }
 
 pub fn oarhatchet_getids(t: &Tables, caller: u64, ids: &mut [u32; OWN_WORDS]) -> u64

@@ -67,8 +67,8 @@ pub(crate) fn words_of(read: Read, at: usize, namespace: u64) -> [u64; RECORD_WO
     ensures { result ≡ read_words read at namespace }
 {
     match read {
-        Read::Found(r) => found_words(r, namespace),
-        Read::End => plain_words(0, at),
-        Read::Stopped(offset, why) => plain_words(stop_number(why), offset),
+        Ok(Some(r)) => found_words(r, namespace),
+        Ok(None) => plain_words(0, at),
+        Err(s) => plain_words(stop_number(s.why), s.at),
     }
 }

@@ -8,21 +8,18 @@ use lib.Dec.{leb, ltb, eqb}
 use lib.ListN.{length, get_or, take, drop, length-append, length-drop, length-replicate, take-append-drop}
 use lib.Seq.{drop-cons, drop-drop, take_all}
 use borrow.Author.Tests.{ltb-false, leb-true, leb-false, eqb-false}
+use Rattle.std.specs.Prelude.{Option, Some, None, Ok, Err}
 use Rattle.prelude.specs.Parts.{part}
 use Rattle.prelude.proofs.Parts.{length_part, part_part}
 use Rattle.calls.specs.declared.Call.{Call}
 use Rattle.calls.specs.Calls.{Request}
 use Rattle.journal.specs.declared.layout.Lent.{Lent}
 use Rattle.journal.specs.declared.layout.Lent.TheVariants.{Nothing, Text, Groups, Buffer}
-use Rattle.journal.specs.declared.layout.Template.{Template}
-use Rattle.journal.specs.declared.layout.Template.TheVariants.{Of, Unknown}
 use Rattle.journal.specs.declared.read.Record.{Record}
-use Rattle.journal.specs.declared.read.Read.{Read}
-use Rattle.journal.specs.declared.read.Read.TheVariants.{Found, End, Stopped}
 use Rattle.journal.specs.Numbers.{big_endian, all_big_endian, number_at, numbers_at}
 use Rattle.journal.specs.Layout.{byte_of, form_of, fixed_bytes, names_of, numbers_of, template_of}
 use Rattle.journal.specs.Journal.{tail_of, body_of, record_of, request_record}
-use Rattle.journal.specs.Reading.{leftover, text_bytes, id_count, buffer_length, names_in, numbers_in, rest_of, record_in, record_by, record_at, request_at}
+use Rattle.journal.specs.Reading.{Read, leftover, text_bytes, id_count, buffer_length, names_in, numbers_in, rest_of, record_in, record_by, record_at, request_at}
 use Rattle.journal.specs.Laws.{AllBelow, Writable}
 use Rattle.journal.proofs.Gets.{length_tab}
 use Rattle.journal.proofs.BigEndian.{below_part, below_tab, bytes_written, numbers_written, name_below, id_below, size_below}
@@ -65,9 +62,9 @@ pub record IsRecord (l : List ℕ) (at : ℕ) (f : Record) : Type 0 where
   pub fits : Writable (request_at l f)
 
 abbrev pub StandsAt : List ℕ → ℕ → Read → Type 0
-StandsAt l at (Found f) = IsRecord l at f
-StandsAt l at End = length l ≤ at
-StandsAt l at (Stopped o why) = (o ≡ at) × (at < length l)
+StandsAt l at (Ok (Some f)) = IsRecord l at f
+StandsAt l at (Ok None) = length l ≤ at
+StandsAt l at (Err s) = (s.at ≡ at) × (at < length l)
 
 module _ (l : List ℕ) (at : ℕ) (bytes : AllBelow 256 l) where
   abbrev size : ℕ
@@ -80,7 +77,7 @@ module _ (l : List ℕ) (at : ℕ) (bytes : AllBelow 256 l) where
     body_long : length body ≡ size
     body_long = length_part size (at + 2) l room
 
-    module _ (some : 0 < size) (d : Call) (known : template_of (get_or body 0 0) ≡ Of d) (enough : fixed_bytes (form_of d) ≤ length body)
+    module _ (some : 0 < size) (d : Call) (known : template_of (get_or body 0 0) ≡ Some d) (enough : fixed_bytes (form_of d) ≤ length body)
         (none : leftover (form_of d).lent (rest_of d body) ≡ false) where
       abbrev f : Record
       f = record_in at body d
@@ -156,10 +153,10 @@ module _ (l : List ℕ) (at : ℕ) (bytes : AllBelow 256 l) where
         );
       }
 
-    by_template : at < length l → 0 < size → (t : Template) → template_of (get_or body 0 0) ≡ t → StandsAt l at (record_by at body t)
+    by_template : at < length l → 0 < size → (t : Option Call) → template_of (get_or body 0 0) ≡ t → StandsAt l at (record_by at body t)
     unfolding record_by
-    by_template more some Unknown e = (refl, more)
-    by_template more some (Of d) e =
+    by_template more some None e = (refl, more)
+    by_template more some (Some d) e =
         cond_cases (StandsAt l at) (ltb (length body) (fixed_bytes (form_of d))) (λ t. (refl, more))
         (λ t.
         cond_cases (StandsAt l at) (leftover (form_of d).lent (rest_of d body)) (λ s. (refl, more))

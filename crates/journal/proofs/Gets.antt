@@ -1,46 +1,71 @@
 -- Numbers that are read from bytes. Assumes nothing.
-use Prim.Native.Nat.{ℕ, zero, suc, ◌+◌, ◌*◌, ◌-◌, ◌≤◌, ◌<◌, ◌^◌}
+use Prim.Native.Nat.{ℕ, zero, suc, ◌+◌, ◌*◌, ◌≤◌, ◌<◌, ◌^◌}
 use mathlib.Core.Path.{◌≡◌, refl, sym, ap, ◌∙◌}
 use mathlib.Core.List.{List, [], ◌∷◌}
 use native.Mathlib.Omega.{arith}
-use lib.ListN.{length, get_or, set, take, drop}
-use lib.Seq.{paste, paste-zero}
-use borrow.Author.Rules.{rules}
-use Rattle.prelude.specs.Parts.{put_at}
+use lib.ListN.{length, get_or, set, drop}
+use lib.Seq.{paste, paste-zero, get_or-take, get_or-drop}
+use Rattle.std.specs.Int.{w16, w32, w64, from_be_bytes}
+use Rattle.prelude.specs.Parts.{part, put_at}
 use Rattle.prelude.specs.Lists.{tab}
-use Rattle.prelude.proofs.Parts.{part_range, put_step, put_all}
+use Rattle.prelude.proofs.Parts.{length_part, put_step, put_all}
 use Rattle.prelude.proofs.Made.{tab_all}
 use Rattle.journal.specs.Numbers.{number_from, number_at, numbers_at}
 
--- ---- the bytes one by one
-pub four_bytes : (a b c d : ℕ) → a < 2 ^ 8 → b < 2 ^ 8 → c < 2 ^ 8 → d < 2 ^ 8 → ((a * 256 + b) * 256 + c) * 256 + d ≡ number_from 0 (a ∷ b ∷ c ∷ d ∷ [])
-unfolding number_from
-four_bytes a b c d h i j k = omega arith
-
-module _ (s : List ℕ) where
-  abbrev at : ℕ → ℕ
-  at i = get_or s i 0
-
-  pub two_of : (r : ℕ) → length s ≡ 2 → r ≡ number_from 0 (0 ∷ 0 ∷ at 0 ∷ at 1 ∷ []) → r ≡ number_from 0 s
+-- ---- the library reads bytes so
+module _ (l : List ℕ) (small : (i : ℕ) → i < length l → get_or l i 0 < 2 ^ 8) where
+  pub two_bytes : length l ≡ 2 → from_be_bytes w16 l ≡ number_from 0 l
   unfolding number_from
-  two_of r e p =
-      let q : number_from 0 (0 ∷ 0 ∷ at 0 ∷ at 1 ∷ []) ≡ number_from 0 (at 0 ∷ at 1 ∷ []) = omega arith in
-      p ∙ q ∙ ap (number_from 0) (tab_all s 0 2 e)
+  two_bytes e =
+      let x0 = small 0 (omega arith) in
+      let x1 = small 1 (omega arith) in
+      let one_by_one : from_be_bytes w16 l ≡ number_from 0 (get_or l 0 0 ∷ get_or l 1 0 ∷ []) = omega arith in
+      one_by_one ∙ ap (number_from 0) (tab_all l 0 2 e)
 
-  pub four_of : (r : ℕ) → length s ≡ 4 → r ≡ number_from 0 (at 0 ∷ at 1 ∷ at 2 ∷ at 3 ∷ []) → r ≡ number_from 0 s
-  four_of r e p = p ∙ ap (number_from 0) (tab_all s 0 4 e)
-
-  pub eight_of : (high low : ℕ) → length s ≡ 8 → high ≡ number_from 0 (at 0 ∷ at 1 ∷ at 2 ∷ at 3 ∷ [])
-      → low ≡ number_from 0 (at 4 ∷ at 5 ∷ at 6 ∷ at 7 ∷ []) → high * 4294967296 + low ≡ number_from 0 s
+  pub four_bytes : length l ≡ 4 → from_be_bytes w32 l ≡ number_from 0 l
   unfolding number_from
-  eight_of high low e p q =
-      let joined : high * 4294967296 + low ≡ number_from 0 (at 0 ∷ at 1 ∷ at 2 ∷ at 3 ∷ at 4 ∷ at 5 ∷ at 6 ∷ at 7 ∷ []) = omega arith in
-      joined ∙ ap (number_from 0) (tab_all s 0 8 e)
+  four_bytes e =
+      let x0 = small 0 (omega arith) in
+      let x1 = small 1 (omega arith) in
+      let x2 = small 2 (omega arith) in
+      let x3 = small 3 (omega arith) in
+      let one_by_one : from_be_bytes w32 l ≡ number_from 0 (get_or l 0 0 ∷ get_or l 1 0 ∷ get_or l 2 0 ∷ get_or l 3 0 ∷ []) = omega arith in
+      one_by_one ∙ ap (number_from 0) (tab_all l 0 4 e)
 
--- those of a range of the code, `&s[at..end]` with `end = at + w`
-pub number_range : (w a : ℕ) (l : List ℕ) (r : ℕ) → r ≡ number_from 0 (take (a + w - a) (drop a l)) → r ≡ number_at w a l
-unfolding number_at
-number_range w a l r e = e ∙ ap (number_from 0) (part_range w a l)
+  pub eight_bytes : length l ≡ 8 → from_be_bytes w64 l ≡ number_from 0 l
+  unfolding number_from
+  eight_bytes e =
+      let x0 = small 0 (omega arith) in
+      let x1 = small 1 (omega arith) in
+      let x2 = small 2 (omega arith) in
+      let x3 = small 3 (omega arith) in
+      let x4 = small 4 (omega arith) in
+      let x5 = small 5 (omega arith) in
+      let x6 = small 6 (omega arith) in
+      let x7 = small 7 (omega arith) in
+      let one_by_one : from_be_bytes w64 l ≡ number_from 0 (get_or l 0 0 ∷ get_or l 1 0 ∷ get_or l 2 0 ∷ get_or l 3 0 ∷ get_or l 4 0 ∷ get_or l 5 0 ∷ get_or l 6 0 ∷ get_or l 7 0 ∷ []) = omega arith in
+      one_by_one ∙ ap (number_from 0) (tab_all l 0 8 e)
+
+-- those at a place
+module _ (w at : ℕ) (l : List ℕ) (small : (i : ℕ) → get_or l i 0 < 2 ^ 8) (fits : at + w ≤ length l) where
+  part_small : (i : ℕ) → i < length (part w at l) → get_or (part w at l) i 0 < 2 ^ 8
+  unfolding part
+  part_small i h =
+      let long = length_part w at l fits in
+      rw (get_or-take w (drop at l) i 0 (omega arith), get_or-drop at l i 0) (small (at + i))
+
+module _ (at r : ℕ) (l bs : List ℕ) (small : (i : ℕ) → get_or l i 0 < 2 ^ 8) where
+  pub size_read : at + 2 ≤ length l → bs ≡ part 2 at l → r ≡ from_be_bytes w16 bs → r ≡ number_at 2 at l
+  unfolding number_at
+  size_read fits e q = q ∙ ap (from_be_bytes w16) e ∙ two_bytes (part 2 at l) (part_small 2 at l small fits) (length_part 2 at l fits)
+
+  pub number_read : at + 4 ≤ length l → bs ≡ part 4 at l → r ≡ from_be_bytes w32 bs → r ≡ number_at 4 at l
+  unfolding number_at
+  number_read fits e q = q ∙ ap (from_be_bytes w32) e ∙ four_bytes (part 4 at l) (part_small 4 at l small fits) (length_part 4 at l fits)
+
+  pub name_read : at + 8 ≤ length l → bs ≡ part 8 at l → r ≡ from_be_bytes w64 bs → r ≡ number_at 8 at l
+  unfolding number_at
+  name_read fits e q = q ∙ ap (from_be_bytes w64) e ∙ eight_bytes (part 8 at l) (part_small 8 at l small fits) (length_part 8 at l fits)
 
 -- ---- a list of them
 pub length_tab : {A : Type 0} (f : ℕ → A) (n k : ℕ) → length (tab f n k) ≡ n
@@ -51,6 +76,20 @@ pub tab_get : {A : Type 0} (f : ℕ → A) (n k i : ℕ) (d : A) → i < n → g
 tab_get f zero k i d h = absurd (omega arith)
 tab_get f (suc n) k zero d h = let e : k ≡ k + 0 = omega arith in ap f e
 tab_get f (suc n) k (suc i) d h = let e : suc k + i ≡ k + suc i = omega arith in tab_get f n (suc k) i d (omega arith) ∙ ap f e
+
+tab_past : {A : Type 0} (f : ℕ → A) (n k i : ℕ) (d : A) → n ≤ i → get_or (tab f n k) i d ≡ d
+tab_past f zero k i d h = refl
+tab_past f (suc n) k zero d h = absurd (omega arith)
+tab_past f (suc n) k (suc i) d h = tab_past f n (suc k) i d (omega arith)
+
+-- one of them, and 0 past the last
+pub numbers_get : (w k at i : ℕ) (l : List ℕ) → i < k → get_or (numbers_at w k at l) i 0 ≡ number_at w (at + w * i) l
+numbers_get w k at i l h =
+    let z : 0 + i ≡ i = omega arith in
+    tab_get (λ (j : ℕ). number_at w (at + w * j) l) k 0 i 0 h ∙ ap (λ (j : ℕ). number_at w (at + w * j) l) z
+
+pub numbers_past : (w k at i : ℕ) (l : List ℕ) → k ≤ i → get_or (numbers_at w k at l) i 0 ≡ 0
+numbers_past w k at i l h = tab_past (λ (j : ℕ). number_at w (at + w * j) l) k 0 i 0 h
 
 module _ (a n : ℕ) (s l t : List ℕ) (i : ℕ) where
   -- those that the list is to have at its start
@@ -73,4 +112,4 @@ module _ (a n : ℕ) (s l t : List ℕ) (i : ℕ) where
       let many = length_tab (λ (j : ℕ). number_at 4 (a + 4 * j) s) n 0 in
       put_all l 0 vs t i (omega arith) (omega arith) (omega arith) e
 
-pub ruleset gets = (four_bytes, two_of, four_of, eight_of, number_range, list_starts, list_step, list_done, rules)
+pub ruleset gets = (list_starts, list_step)

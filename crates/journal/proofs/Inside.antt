@@ -1,67 +1,46 @@
 -- A record that was found lies within its journal. Assumes nothing.
 use Prim.Native.Nat.{ℕ, ◌+◌, ◌*◌, ◌-◌, ◌≤◌, ◌<◌}
-use mathlib.Core.Path.{◌≡◌, refl, sym, ap, ◌∙◌}
+use mathlib.Core.Path.{◌≡◌, refl, ap}
 use mathlib.Core.Bool.{false}
 use mathlib.Core.List.{List, [], ◌∷◌}
 use native.Mathlib.Omega.{arith}
 use lib.Dec.{eqb, leb, ltb}
 use lib.ListN.{length, get_or}
-use borrow.Author.Rules.{rules}
 use borrow.Author.Tests.{ltb-true, ltb-false, leb-false, eqb-false}
-use Rattle.prelude.specs.Parts.{part, put_at}
+use Rattle.std.specs.Prelude.{Option, Some, None, Ok}
+use Rattle.prelude.specs.Parts.{part}
 use Rattle.prelude.proofs.Tests.{by_test}
 use Rattle.prelude.proofs.Parts.{length_part}
 use Rattle.prelude.proofs.Made.{tab_all}
 use Rattle.calls.specs.declared.Call.{Call}
-use Rattle.calls.specs.declared.Call.TheVariants.{Fork, Clone, Unshare, Setns, WriteMap, WriteSetgroups, ReadMap, ReadSetgroups, SetIds, SetGroups, Capable, Drop, OwnIdsOf, Translate}
 use Rattle.journal.specs.declared.layout.Lent.{Lent}
 use Rattle.journal.specs.declared.layout.Lent.TheVariants.{Nothing, Text, Groups, Buffer}
-use Rattle.journal.specs.declared.layout.Template.{Template}
-use Rattle.journal.specs.declared.layout.Template.TheVariants.{Of, Unknown}
-use Rattle.journal.specs.declared.read.Stop.{Stop}
 use Rattle.journal.specs.declared.read.Record.{Record}
-use Rattle.journal.specs.declared.read.Read.{Read}
-use Rattle.journal.specs.declared.read.Read.TheVariants.{Found, End, Stopped}
-use Rattle.journal.specs.Numbers.{number_from, number_at, numbers_at}
+use Rattle.journal.specs.Numbers.{number_from, number_at}
 use Rattle.journal.specs.Layout.{version, template_of, form_of, fixed_bytes}
-use Rattle.journal.specs.Reading.{leftover, text_bytes, id_count, rest_of, record_in, record_by, record_at, read_at, list_after}
-
--- ---- what was found is no stop and no end
-stop_found : {at : ℕ} {why : Stop} {r : Record} → Stopped at why ≡ Found r → ⊥
-stop_found e = let z : ◌≡◌ {A = ℕ} 0 1 = cc in omega arith
-
-end_found : {r : Record} → End ≡ Found r → ⊥
-end_found e = let z : ◌≡◌ {A = ℕ} 0 1 = cc in omega arith
-
-or_else : Record → Read → Record
-or_else d (Found r) = r
-or_else d End = d
-or_else d (Stopped at why) = d
-
-pub found_same : {a b : Record} → Found a ≡ Found b → a ≡ b
-unfolding or_else
-found_same {a = a} e = ap (or_else a) e
+use Rattle.journal.proofs.Layouts.{some_names}
+use Rattle.journal.specs.Reading.{leftover, text_bytes, id_count, rest_of, record_in, record_by, record_at, read_at}
 
 -- ---- what the tests say of a record that was found
 -- body is what it has after its length, and c the template of its call
 pub record FoundIn (at : ℕ) (body : List ℕ) (r : Record) : Type 0 where
   pub template : Call
-  pub known : template_of (get_or body 0 0) ≡ Of template
+  pub known : template_of (get_or body 0 0) ≡ Some template
   pub wide : fixed_bytes (form_of template) ≤ length body
   pub all_used : leftover (form_of template).lent (rest_of template body) ≡ false
   pub is : record_in at body template ≡ r
 
-by_template : (at : ℕ) (body : List ℕ) (r : Record) (t : Template) → template_of (get_or body 0 0) ≡ t → record_by at body t ≡ Found r → FoundIn at body r
+by_template : (at : ℕ) (body : List ℕ) (r : Record) (t : Option Call) → template_of (get_or body 0 0) ≡ t → record_by at body t ≡ Ok (Some r) → FoundIn at body r
 unfolding record_by
-by_template at body r Unknown p e = absurd (stop_found e)
-by_template at body r (Of c) p e =
+by_template at body r None p e = cc
+by_template at body r (Some c) p e =
     by_test (ltb (length body) (fixed_bytes (form_of c)))
-    (λ t. absurd (stop_found (rw t at e)))
+    (λ t. let z = rw t at e in cc)
     (λ t.
     let e₁ = rw t at e in
     by_test (leftover (form_of c).lent (rest_of c body))
-    (λ u. absurd (stop_found (rw u at e₁)))
-    (λ u. record { template = c; known = p; wide = ltb-false (length body) (fixed_bytes (form_of c)) t; all_used = u; is = found_same (rw u at e₁) }))
+    (λ u. let z = rw u at e₁ in cc)
+    (λ u. record { template = c; known = p; wide = ltb-false (length body) (fixed_bytes (form_of c)) t; all_used = u; is = (let z = rw u at e₁ in cc) }))
 
 -- and of where it stands in the journal
 pub record FoundAt (l : List ℕ) (at : ℕ) (r : Record) : Type 0 where
@@ -70,24 +49,24 @@ pub record FoundAt (l : List ℕ) (at : ℕ) (r : Record) : Type 0 where
   pub some_bytes : 0 < number_at 2 at l
   pub in_body : FoundIn at (part (number_at 2 at l) (at + 2) l) r
 
-pub found_at : (l : List ℕ) (at : ℕ) (r : Record) → record_at l at ≡ Found r → FoundAt l at r
+pub found_at : (l : List ℕ) (at : ℕ) (r : Record) → record_at l at ≡ Ok (Some r) → FoundAt l at r
 unfolding record_at
 found_at l at r e =
     let size = number_at 2 at l in
     by_test (leb (length l) at)
-    (λ t. absurd (end_found (rw t at e)))
+    (λ t. let z = rw t at e in cc)
     (λ t.
     let e₁ = rw t at e in
     by_test (ltb (length l - at) 2)
-    (λ u. absurd (stop_found (rw u at e₁)))
+    (λ u. let z = rw u at e₁ in cc)
     (λ u.
     let e₂ = rw u at e₁ in
     by_test (ltb (length l - at - 2) size)
-    (λ v. absurd (stop_found (rw v at e₂)))
+    (λ v. let z = rw v at e₂ in cc)
     (λ v.
     let e₃ = rw v at e₂ in
     by_test (eqb size 0)
-    (λ w. absurd (stop_found (rw w at e₃)))
+    (λ w. let z = rw w at e₃ in cc)
     (λ w.
     let past = leb-false (length l) at t in
     let two = ltb-false (length l - at) 2 u in
@@ -101,7 +80,7 @@ found_at l at r e =
     }))))
 
 -- at the version byte too
-pub found_from : (l : List ℕ) (at : ℕ) (r : Record) → read_at l at ≡ Found r → (from : ℕ) × (at ≤ from) × (0 < from) × (record_at l from ≡ Found r)
+pub found_from : (l : List ℕ) (at : ℕ) (r : Record) → read_at l at ≡ Ok (Some r) → (from : ℕ) × (at ≤ from) × (0 < from) × (record_at l from ≡ Ok (Some r))
 unfolding read_at
 found_from l at r e =
     by_test (ltb 0 at)
@@ -109,10 +88,10 @@ found_from l at r e =
     (λ t.
     let e₁ = rw t at e in
     by_test (eqb (length l) 0)
-    (λ u. absurd (stop_found (rw u at e₁)))
+    (λ u. let z = rw u at e₁ in cc)
     (λ u.
     let e₂ = rw u at e₁ in
-    by_test (eqb (get_or l 0 0) version) (λ v. let z = ltb-false 0 at t in (1, omega arith, omega arith, rw v at e₂)) (λ v. absurd (stop_found (rw v at e₂)))))
+    by_test (eqb (get_or l 0 0) version) (λ v. let z = ltb-false 0 at t in (1, omega arith, omega arith, rw v at e₂)) (λ v. let z = rw v at e₂ in cc)))
 
 -- ---- its text, its list and its end lie within the journal
 pub record Inside (l : List ℕ) (at : ℕ) (r : Record) : Type 0 where
@@ -141,23 +120,6 @@ ids_most Text rest = omega arith
 ids_most Groups rest = omega arith
 ids_most Buffer rest = omega arith
 
-pub caller_there : (c : Call) → 9 ≤ fixed_bytes (form_of c)
-unfolding form_of
-caller_there (Fork c) = omega arith
-caller_there (Clone c) = omega arith
-caller_there (Unshare c) = omega arith
-caller_there (Setns c n) = omega arith
-caller_there (WriteMap k c p) = omega arith
-caller_there (WriteSetgroups c p) = omega arith
-caller_there (ReadMap k c p) = omega arith
-caller_there (ReadSetgroups c p) = omega arith
-caller_there (SetIds k c i) = omega arith
-caller_there (SetGroups c) = omega arith
-caller_there (Capable c n number) = omega arith
-caller_there (Drop c p e) = omega arith
-caller_there (OwnIdsOf c) = omega arith
-caller_there (Translate k w c n x) = omega arith
-
 inside_at : (l : List ℕ) (at : ℕ) (r : Record) → FoundAt l at r → Inside l at r
 inside_at l at r f =
     let size = number_at 2 at l in
@@ -167,7 +129,7 @@ inside_at l at r f =
     let fixed = fixed_bytes (form_of c) in
     let long : length body ≡ size = length_part size (at + 2) l f.whole in
     let small = size_small l at f.head in
-    let caller = caller_there c in
+    let caller = some_names c in
     let t = text_most (form_of c).lent (rest_of c body) in
     let i = ids_most (form_of c).lent (rest_of c body) in
     rw (← b.is) (record {
@@ -178,34 +140,8 @@ inside_at l at r f =
       next_past = omega (arith, f.whole);
     })
 
-pub found_inside : (l : List ℕ) (at : ℕ) (r : Record) → read_at l at ≡ Found r → Inside l at r
+pub found_inside : (l : List ℕ) (at : ℕ) (r : Record) → read_at l at ≡ Ok (Some r) → Inside l at r
 found_inside l at r e =
     let f = found_from l at r e in
     let i = inside_at l f.0 r (found_at l f.0 r f.3) in
     record { text_inside = i.text_inside; ids_inside = i.ids_inside; few_ids = i.few_ids; next_inside = i.next_inside; next_past = omega (arith, f.1, i.next_past) }
-
--- ---- what the reader leaves
-module _ (l : List ℕ) (at : ℕ) (read : Read) (e : read ≡ read_at l at) where
-  module _ (r : Record) (p : read ≡ Found r) where
-    found_is : read_at l at ≡ Found r
-    found_is = sym e ∙ p
-
-    pub ids_room : r.tail + 4 * r.ids ≤ length l
-    ids_room = (found_inside l at r found_is).ids_inside
-
-    pub ids_few : (n : ℕ) → n ≡ 16381 → r.ids ≤ n
-    ids_few n q = rw q (found_inside l at r found_is).few_ids
-
-    pub list_found : (list t : List ℕ) → t ≡ put_at list 0 (numbers_at 4 r.ids r.tail l) → t ≡ list_after l (read_at l at) list
-    list_found list t q = rw found_is q
-
-  pub read_same : (r : Read) → read ≡ r → r ≡ read_at l at
-  read_same r p = sym p ∙ e
-
-  pub list_end : (list : List ℕ) → read ≡ End → list ≡ list_after l (read_at l at) list
-  list_end list p = rw (← e, p)
-
-  pub list_stopped : (list : List ℕ) (offset : ℕ) (why : Stop) → read ≡ Stopped offset why → list ≡ list_after l (read_at l at) list
-  list_stopped list offset why p = rw (← e, p)
-
-pub ruleset readings = (ids_room, ids_few, list_found, read_same, list_end, list_stopped, rules)

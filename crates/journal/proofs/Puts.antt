@@ -1,12 +1,14 @@
 -- Stores of bytes one after the other. Assumes nothing.
-use Prim.Native.Nat.{ℕ, zero, suc, ◌+◌, ◌-◌, ◌/◌, ◌%◌, ◌≤◌, ◌<◌, ◌^◌}
-use mathlib.Core.Path.{◌≡◌, refl, sym, ap, ◌∙◌}
+use Prim.Native.Nat.{ℕ, zero, suc, ◌+◌, ◌*◌, ◌-◌, ◌/◌, ◌%◌, ◌≤◌, ◌<◌, ◌^◌}
+use mathlib.Core.Path.{◌≡◌, refl, sym, ap, ap₂, ◌∙◌}
 use mathlib.Core.List.{List, [], ◌∷◌, ◌++◌, append_assoc, append-nil}
 use native.Mathlib.Omega.{arith}
 use native.Mathlib.Numerals.{add-one}
 use lib.ListN.{length, get_or, set, take, drop, length-append, length-take, length-set, take-append-drop, drop_of_length-le}
-use lib.Seq.{drop_at, drop-cons, drop-drop, drop-set-lt, get_or-set_same, take-append_seam, take-set-le, lt-length-set}
-use borrow.Author.Rules.{rules}
+use lib.Seq.{take_all, drop_at, drop-cons, drop-drop, drop-set-lt, get_or-set_same, take-append_seam, take-set-le, lt-length-set}
+use borrow.Rule.Slice.PartMut.{put_mid}
+use Rattle.std.specs.Int.{w64, to_be_bytes, bytes_high_first}
+use Rattle.std.proofs.Math.Nat.{pow-suc, div-div-eq-div-mul, mul_comm}
 use Rattle.prelude.specs.Parts.{put_at}
 use Rattle.prelude.proofs.Parts.{put_inside, length_put}
 use Rattle.journal.specs.Numbers.{big_endian, all_big_endian}
@@ -62,25 +64,41 @@ unfolding big_endian
 length_number zero x = refl
 length_number (suc w) x = length-append (big_endian w (x / 256)) (x % 256 ∷ []) ∙ omega (arith, length_number w (x / 256))
 
--- W is the buffer with the whole number
-module _ (b b₀ W : List ℕ) (at k left w : ℕ) (inv : put_at b at (big_endian k left) ≡ W) (fits : at + w ≤ length b₀) (long : length b ≡ length b₀) (most : k ≤ w) where
-  pub number_step : 0 < k → put_at (set b (at + (k - 1)) (left % 256)) at (big_endian (k - 1) (left / 256)) ≡ W
-  unfolding big_endian
-  number_step h =
-      let e : suc (k - 1) ≡ k = omega arith in
-      let wide = length_number (k - 1) (left / 256) in
-      let last = put_last b at (big_endian (k - 1) (left / 256)) (left % 256) (omega (arith, wide)) in
-      rw wide at last ∙ (rw (← e) at inv)
+-- the library writes them so
+high_last : (k x : ℕ) → bytes_high_first (suc k) x ≡ bytes_high_first k (x / 256) ++ (x % 256 ∷ [])
+high_last zero x = refl
+high_last (suc zero) x = refl
+high_last (suc (suc k)) x =
+    let p = 256 ^ suc k in
+    let wider : 256 ^ suc (suc k) ≡ 256 * p = pow-suc 256 (suc k) ∙ mul_comm p 256 in
+    ap₂ (λ (b : ℕ) (bs : List ℕ). b % 256 ∷ bs) (ap (λ (m : ℕ). x / m) wider ∙ sym (div-div-eq-div-mul x 256 p)) (high_last (suc k) x)
 
-  pub number_done : k ≤ 0 → b ≡ W
-  unfolding big_endian
-  number_done h = let e : k ≡ 0 = omega arith in sym (put_nothing b at (omega arith)) ∙ (rw e at inv)
+high_first : (w x : ℕ) → bytes_high_first w x ≡ big_endian w x
+unfolding big_endian
+high_first zero x = refl
+high_first (suc w) x = high_last w x ∙ ap (λ (l : List ℕ). l ++ (x % 256 ∷ [])) (high_first w (x / 256))
+
+drop_high : (k w x : ℕ) → drop k (bytes_high_first (k + w) x) ≡ bytes_high_first w x
+drop_high zero w x = let e : 0 + w ≡ w = omega arith in ap (λ (n : ℕ). bytes_high_first n x) e
+drop_high (suc k) w x = let e : suc k + w ≡ suc (k + w) = omega arith in ap (λ (n : ℕ). drop (suc k) (bytes_high_first n x)) e ∙ drop_high k w x
+
+pub low_bytes : (w x : ℕ) → w ≤ 8 → drop (8 - w) (to_be_bytes w64 x) ≡ big_endian w x
+low_bytes w x h =
+    let e : 8 - w + w ≡ 8 = omega arith in
+    ap (λ (n : ℕ). drop (8 - w) (bytes_high_first n x)) (sym e) ∙ drop_high (8 - w) w x ∙ high_first w x
+
+-- and writes over a part of a buffer so
+pub number_put : (b bs ys : List ℕ) (at w x : ℕ) → w ≤ 8 → at + w ≤ length b → bs ≡ to_be_bytes w64 x → ys ≡ take (8 - (8 - w)) (drop (8 - w) bs)
+    → put_mid at (at + w - at) b ys ≡ put_at b at (big_endian w x)
+number_put b bs ys at w x small fits p e =
+    let n = big_endian w x in
+    let long : length n ≡ w = length_number w x in
+    let all : 8 - (8 - w) ≡ w = omega arith in
+    let is : ys ≡ n = e ∙ rw (all, p, low_bytes w x small) (take_all w n (omega arith)) in
+    let k : at + w - at ≡ w = omega arith in
+    rw (is, k, drop-drop w at b) (sym (put_inside b at n (omega arith) ∙ ap (λ (i : ℕ). take at b ++ n ++ drop (at + i) b) long ∙ append_assoc (take at b) n (drop (at + w) b)))
 
 -- ---- numbers, one after the other
-pub length_numbers : (w x : ℕ) (xs : List ℕ) → length (all_big_endian w (x ∷ xs)) ≡ w + length (all_big_endian w xs)
-unfolding all_big_endian
-length_numbers w x xs = length-append (big_endian w x) (all_big_endian w xs) ∙ rw (length_number w x)
-
 -- those from i on are left to be put, and W is the buffer with all of them
 pub Rest : List ℕ → List ℕ → ℕ → ℕ → List ℕ → ℕ → Type 0
 Rest b W place w xs i = (place + length (all_big_endian w (drop i xs)) ≤ length b) × (put_at b place (all_big_endian w (drop i xs)) ≡ W)
@@ -104,9 +122,6 @@ module _ (b W : List ℕ) (place w : ℕ) (xs : List ℕ) (i : ℕ) (rest : Rest
   unfolding Rest
   rest_room h = omega (arith, left_long h, rest.0)
 
-  pub rest_sum : i < length xs → length b < 2 ^ 64 → place + w < 2 ^ 64
-  rest_sum h short = omega (arith, rest_room h)
-
   pub rest_step : (t : List ℕ) (x : ℕ) → i < length xs → t ≡ put_at b place (big_endian w x) → x ≡ get_or xs i 0 → Rest t W (place + w) w xs (i + 1)
   unfolding Rest
   rest_step t x h e q =
@@ -115,11 +130,6 @@ module _ (b W : List ℕ) (place w : ℕ) (xs : List ℕ) (i : ℕ) (rest : Rest
       let two = put_append b place v after (omega (arith, left_long h, long, rest.0)) in
       rw (e, q) (omega (arith, left_long h, rest.0, length_put b place v), (rw long at two) ∙ ap (put_at b place) (sym (left_is h)) ∙ rest.1)
 
-  pub rest_plain : (t : List ℕ) → i < length xs → t ≡ put_at b place (big_endian w (get_or xs i 0)) → Rest t W (place + w) w xs (i + 1)
-  rest_plain t h e = rest_step t (get_or xs i 0) h e refl
-
   pub rest_done : length xs ≤ i → b ≡ W
   unfolding Rest all_big_endian
   rest_done h = sym (put_nothing b place (omega (arith, rest.0))) ∙ (rw (drop_of_length-le xs {i = i} h) at rest.1)
-
-pub ruleset puts = (number_step, number_done, rest_starts, rest_room, rest_sum, rest_plain, rest_step, rest_done, length-set, length_put, rules)

@@ -9,16 +9,15 @@ use lib.Dec.{ltb, eqb}
 use lib.ListN.{length, take, drop, length-append, length-drop, drop_of_length-le}
 use lib.Seq.{take_at, drop_at, drop-drop, take-append-add, length-take-le}
 use borrow.Author.Tests.{lt-ltb, ne_eqb, ltb-true, ltb-false, eqb-true}
+use Rattle.std.specs.Prelude.{Some, None, Ok, Err}
 use Rattle.prelude.proofs.Tests.{by_test}
 use Rattle.calls.specs.Calls.{Request}
 use Rattle.journal.specs.declared.read.Stop.{Stop}
 use Rattle.journal.specs.declared.read.Stop.TheVariants.{Version, Cut}
-use Rattle.journal.specs.declared.read.Read.{Read}
-use Rattle.journal.specs.declared.read.Read.TheVariants.{Found, End, Stopped}
 use Rattle.journal.specs.Numbers.{big_endian}
 use Rattle.journal.specs.Layout.{version, call_by}
 use Rattle.journal.specs.Journal.{body_of, record_of, request_record, records_of, journal_of}
-use Rattle.journal.specs.Reading.{Ending, ended, stopped, Reading, record_in, record_at, read_at, request_at, before, go_on, read_from, read_journal}
+use Rattle.journal.specs.Reading.{Read, stopped_at, Ending, ended, stopped, Reading, record_in, record_at, read_at, request_at, before, go_on, read_from, read_journal}
 use Rattle.journal.specs.Laws.{AllBelow, Writable, AllWritable, recorded, ReadsBack, OneJournal}
 use Rattle.journal.proofs.Puts.{length_number}
 use Rattle.journal.proofs.Records.{at_end, at_cut}
@@ -62,7 +61,7 @@ reads_on (r ∷ rs) ok n l rest at h e =
     let k : at + length (request_record r) ≡ at + 2 + length b = omega arith in
     rw (← k) (sym (drop-drop (length (request_record r)) at l) ∙ ap (drop (length (request_record r))) here ∙ drop_at (request_record r) (records_of rs ++ rest) (length (request_record r)) refl) in
     rw (s, a)
-    (read_step (length rs + n) l at (Found found) h (record_found r ok.0 l (records_of rs ++ rest) at here)
+    (read_step (length rs + n) l at (Ok (Some found)) h (record_found r ok.0 l (records_of rs ++ rest) at here)
     ∙ ap₂ before (request_found r ok.0 l (records_of rs ++ rest) at here) (reads_on rs ok.1 n l rest (at + 2 + length b) (omega arith) after))
 
 -- they have no fewer bytes than calls
@@ -110,7 +109,7 @@ module _ (rs : List Request) (ok : AllWritable rs) (rest : List ℕ) where
 
 -- a record that is cut
 cut_record : (r : Request) (k : ℕ) (l : List ℕ) (at : ℕ) → Writable r → 0 < k → k < length (request_record r) → drop at l ≡ take k (request_record r)
-    → record_at l at ≡ Stopped at Cut
+    → record_at l at ≡ stopped_at at Cut
 unfolding record_of
 cut_record r k l at ok h short e =
     let b = body_of r.call r.text r.list (length r.buffer) in
@@ -131,11 +130,11 @@ reads_back rs ok = record {
       let j = journal_of rs in
       let e : j ++ [] ≡ j = append-nil j in
       let full : length (j ++ []) ≡ length j = ap length e in
-      ap read_journal (sym e) ∙ reads_end rs ok [] End (sym (at_end (j ++ []) (length j) (omega arith))) ∙ rw (append-nil (map recorded rs));
+      ap read_journal (sym e) ∙ reads_end rs ok [] (Ok None) (sym (at_end (j ++ []) (length j) (omega arith))) ∙ rw (append-nil (map recorded rs));
   stand = λ rest. ((read_from (suc (left rs ok rest)) (l rs ok rest) (past rs ok rest)).calls, ap (λ (x : Reading). x.calls) (reads_past rs ok rest));
   cut = λ r k w h short.
       let rest = take k (request_record r) in
-      reads_end rs ok rest (Stopped (length (journal_of rs)) Cut) (cut_record r k (journal_of rs ++ rest) (length (journal_of rs)) w h short (past_here rs ok rest))
+      reads_end rs ok rest (stopped_at (length (journal_of rs)) Cut) (cut_record r k (journal_of rs ++ rest) (length (journal_of rs)) w h short (past_here rs ok rest))
       ∙ rw (append-nil (map recorded rs));
 }
 
@@ -156,7 +155,7 @@ record ReadTo (l : List ℕ) (at : ℕ) (x : Reading) : Type 0 where
 reads_next : (l : List ℕ) (at : ℕ) (next : ℕ → Reading) → ((k : ℕ) → at < k → k ≤ length l → ReadTo l k (next k)) → (x : Read) → StandsAt l at x
     → ReadTo l at (go_on l x next)
 unfolding records_of
-reads_next l at next then (Found f) s =
+reads_next l at next then (Ok (Some f)) s =
     let t = then f.next s.goes_on s.inside in
     let r = request_record (request_at l f) in
     let rs = records_of (next f.next).calls in
@@ -167,8 +166,8 @@ reads_next l at next then (Found f) s =
       ends = t.ends;
       fits = (s.fits, t.fits);
     }
-reads_next l at next then End s = record { to = at; to_is = omega arith; same_bytes_lem = refl; ends = s; fits = tt }
-reads_next l at next then (Stopped o why) s = record { to = at; to_is = omega arith; same_bytes_lem = refl; ends = s; fits = tt }
+reads_next l at next then (Ok None) s = record { to = at; to_is = omega arith; same_bytes_lem = refl; ends = s; fits = tt }
+reads_next l at next then (Err stop) s = record { to = at; to_is = omega arith; same_bytes_lem = refl; ends = s; fits = tt }
 
 reads_to : (n : ℕ) (l : List ℕ) (at : ℕ) → AllBelow 256 l → 0 < at → length l - at < n → ReadTo l at (read_from n l at)
 reads_to zero l at b h few = absurd (omega arith)
@@ -182,12 +181,9 @@ one_by : (l : List ℕ) (x : Reading) → read_journal l ≡ x → (x.ending ≡
     → ((o ≡ 0) × (why ≡ Version) × (x.calls ≡ [])) ⊎ ((o < length l) × (take o l ≡ journal_of x.calls))) → AllWritable x.calls → OneJournal l
 one_by l x e f g w = record { is_journal = rw e f; stops = rw e g; writable = rw e w }
 
-ended_stopped : {o : ℕ} {why : Stop} → stopped o why ≡ ended → ⊥
-ended_stopped e = let z : ◌≡◌ {A = ℕ} 0 1 = cc in omega arith
-
 no_version : (l : List ℕ) → read_journal l ≡ record { calls = []; ending = stopped 0 Version } → OneJournal l
 no_version l e =
-    one_by l (record { calls = []; ending = stopped 0 Version }) e (λ q. absurd (ended_stopped q)) (λ o why q. inl (cc, cc, refl)) tt
+    one_by l (record { calls = []; ending = stopped 0 Version }) e (λ q. cc) (λ o why q. inl (cc, cc, refl)) tt
 
 module _ (l : List ℕ) (bytes : AllBelow 256 (version ∷ l)) where
   abbrev read : Reading
@@ -214,14 +210,14 @@ module _ (l : List ℕ) (bytes : AllBelow 256 (version ∷ l)) where
       read_to.fits
 
 -- either the version byte is there, or nothing is read
-starts : (l : List ℕ) → ((others : List ℕ) × (l ≡ version ∷ others)) ⊎ (read_at l 0 ≡ Stopped 0 Version)
+starts : (l : List ℕ) → ((others : List ℕ) × (l ≡ version ∷ others)) ⊎ (read_at l 0 ≡ stopped_at 0 Version)
 unfolding read_at
 starts [] = inr refl
 starts (x ∷ l) =
     let e : eqb (suc (length l)) 0 ≡ false = ne_eqb (suc (length l)) 0 (λ z. omega arith) in
     by_test (eqb x version) (λ t. inl (l, ap (λ (y : ℕ). y ∷ l) (eqb-true x version t))) (λ t. inr (rw (e, t)))
 
-stops_first : (n : ℕ) (l : List ℕ) → read_at l 0 ≡ Stopped 0 Version → read_from (suc n) l 0 ≡ record { calls = []; ending = stopped 0 Version }
+stops_first : (n : ℕ) (l : List ℕ) → read_at l 0 ≡ stopped_at 0 Version → read_from (suc n) l 0 ≡ record { calls = []; ending = stopped 0 Version }
 unfolding read_from
 stops_first n l e = ap (λ (x : Read). go_on l x (λ (next : ℕ). read_from n l next)) e
 
@@ -248,9 +244,9 @@ recorded_journal rs ok =
 -- ---- all of a journal is read: more steps read nothing more
 same_next : (l : List ℕ) (at : ℕ) (f g : ℕ → Reading) → ((k : ℕ) → at < k → k ≤ length l → f k ≡ g k) → (x : Read) → StandsAt l at x
     → go_on l x f ≡ go_on l x g
-same_next l at f g e (Found r) s = ap (before (request_at l r)) (e r.next s.goes_on s.inside)
-same_next l at f g e End s = refl
-same_next l at f g e (Stopped o why) s = refl
+same_next l at f g e (Ok (Some r)) s = ap (before (request_at l r)) (e r.next s.goes_on s.inside)
+same_next l at f g e (Ok None) s = refl
+same_next l at f g e (Err stop) s = refl
 
 more_steps : (n m : ℕ) (l : List ℕ) (at : ℕ) → AllBelow 256 l → 0 < at → length l - at < n → length l - at < m → read_from n l at ≡ read_from m l at
 more_steps zero m l at b h p q = absurd (omega arith)

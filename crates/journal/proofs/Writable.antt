@@ -3,17 +3,15 @@ use Prim.Native.Nat.{ℕ, ◌+◌, ◌≤◌, ◌^◌}
 use mathlib.Core.Path.{◌≡◌}
 use mathlib.Core.Bool.{false}
 use mathlib.Core.List.{List, [], ◌∷◌}
-use native.Mathlib.Omega.{arith}
 use lib.Dec.{leb, ltb}
 use lib.ListN.{length}
 use borrow.Author.Rules.{rules}
 use borrow.Author.Tests.{ltb-false, leb-false, le-ltb, lt-leb}
+use Rattle.std.specs.Prelude.{Ok}
 use Rattle.prelude.proofs.Tests.{by_test}
-use Rattle.tables.specs.declared.answer.Errno.{Errno}
 use Rattle.calls.specs.declared.Call.{Call}
 use Rattle.calls.specs.declared.Call.TheVariants.{Fork, Clone, Unshare, Setns, WriteMap, WriteSetgroups, ReadMap, ReadSetgroups, SetIds, SetGroups, Capable, Drop, OwnIdsOf, Translate}
 use Rattle.calls.specs.Calls.{Request}
-use Rattle.journal.specs.declared.write.Written.TheVariants.{Length, Refused}
 use Rattle.journal.specs.Layout.{max_size, form_of, names_of, numbers_of}
 use Rattle.journal.specs.Journal.{long_buffer, body_of, write_of, request_record}
 use Rattle.journal.specs.Laws.{AllBelow, Writable}
@@ -46,9 +44,6 @@ numbers_fit (Drop c p e) m = search rules
 numbers_fit (OwnIdsOf c) m = search rules
 numbers_fit (Translate k w c n x) m = search rules
 
-refused_length : {e : Errno} {k : ℕ} → Refused e ≡ Length k → ⊥
-refused_length e = let z : ◌≡◌ {A = ℕ} 0 1 = cc in omega arith
-
 module _ (r : Request) (buffer : List ℕ) (at : ℕ) where
   abbrev n : ℕ
   n = length r.buffer
@@ -58,17 +53,17 @@ module _ (r : Request) (buffer : List ℕ) (at : ℕ) where
 
   -- a call that can be written is, where there is room
   pub writable_written : Writable r → at + length (request_record r) ≤ length buffer
-      → write_of r.call r.text r.list n buffer at ≡ Length (length (request_record r))
+      → write_of r.call r.text r.list n buffer at ≡ Ok (length (request_record r))
   unfolding write_of
   writable_written ok room =
       rw (le-ltb max_size (length body) ok.1, (numbers_fit r.call n).short ok.0.1, le-ltb (length buffer) (at + length (request_record r)) room)
 
   -- what is written can be: the premises are what the types of the interface give
   pub written_writable : AllBelow (2 ^ 64) (names_of r.call) → AllBelow (2 ^ 32) (numbers_of r.call 0) → AllBelow 256 r.text → AllBelow (2 ^ 32) r.list
-      → (k : ℕ) → write_of r.call r.text r.list n buffer at ≡ Length k → Writable r
+      → (k : ℕ) → write_of r.call r.text r.list n buffer at ≡ Ok k → Writable r
   unfolding write_of
   written_writable names numbers text list k e =
-      by_test (ltb max_size (length body)) (λ t. absurd (refused_length (rw t at e)))
+      by_test (ltb max_size (length body)) (λ t. let z = rw t at e in cc)
       (λ t.
-      by_test (long_buffer n (form_of r.call).lent) (λ s. absurd (refused_length (rw (t, s) at e)))
+      by_test (long_buffer n (form_of r.call).lent) (λ s. let z = rw (t, s) at e in cc)
       (λ s. ((names, (numbers_fit r.call n).fits numbers s, text, list), ltb-false max_size (length body) t)))

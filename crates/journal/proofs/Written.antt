@@ -7,18 +7,17 @@ use native.Mathlib.Omega.{arith}
 use lib.ListN.{length, get_or, take, drop, replicate, length-append, length-drop}
 use lib.Seq.{take_at, drop_at, drop-drop}
 use borrow.Author.Tests.{le-ltb}
+use Rattle.std.specs.Prelude.{Some, Ok}
 use Rattle.prelude.specs.Parts.{part}
 use Rattle.calls.specs.declared.Call.{Call}
 use Rattle.calls.specs.Calls.{Request}
 use Rattle.journal.specs.declared.layout.Lent.{Lent}
 use Rattle.journal.specs.declared.layout.Lent.TheVariants.{Nothing, Text, Groups, Buffer}
-use Rattle.journal.specs.declared.layout.Template.TheVariants.{Of}
 use Rattle.journal.specs.declared.read.Stop.TheVariants.{Cut}
-use Rattle.journal.specs.declared.read.Read.TheVariants.{Found, Stopped}
 use Rattle.journal.specs.Numbers.{big_endian, all_big_endian, number_from, number_at, numbers_at}
 use Rattle.journal.specs.Layout.{byte_of, form_of, fixed_bytes, names_of, numbers_of, call_by}
 use Rattle.journal.specs.Journal.{tail_of, body_of, record_of, request_record}
-use Rattle.journal.specs.Reading.{body_read, leftover, text_bytes, id_count, buffer_length, names_in, numbers_in, record_in, record_by, record_at, request_at}
+use Rattle.journal.specs.Reading.{stopped_at, body_read, leftover, text_bytes, id_count, buffer_length, names_in, numbers_in, record_in, record_by, record_at, request_at}
 use Rattle.journal.specs.Laws.{AllBelow, Writable, recorded_by, recorded}
 use Rattle.journal.proofs.Puts.{length_number}
 use Rattle.journal.proofs.Records.{at_cut_body, at_record}
@@ -130,7 +129,7 @@ module _ (r : Request) (ok : Writable r) where
   rest_is : length body - fixed_bytes (form_of c) ≡ length tail
   rest_is = omega (arith, body_long)
 
-  body_read_lem : (at : ℕ) → record_by at body (Of d) ≡ Found (record_in at body d)
+  body_read_lem : (at : ℕ) → record_by at body (Some d) ≡ Ok (Some (record_in at body d))
   unfolding record_by
   body_read_lem at =
       rw ((listed c).blank_form, le-ltb (length body) (fixed_bytes (form_of c)) (omega (arith, body_long)), rest_is, nothing_left (form_of c).lent r.text r.list)
@@ -161,7 +160,7 @@ module _ (r : Request) (ok : Writable r) where
     after_size = sym (drop-drop 2 at l) ∙ ap (drop 2) e ∙ drop_at (big_endian 2 (length body)) more 2 (length_number 2 (length body))
 
     -- too little
-    pub record_cut : length more < length body → record_at l at ≡ Stopped at Cut
+    pub record_cut : length more < length body → record_at l at ≡ stopped_at at Cut
     record_cut short =
         let long = left_long in
         sym (at_cut_body l at (omega arith) (omega arith) (length body) size_read (omega arith))
@@ -176,19 +175,18 @@ module _ (r : Request) (ok : Writable r) where
     unfolding record_of
     split = e ∙ append_assoc (big_endian 2 (length body)) body rest
 
-    pub record_found : record_at l at ≡ Found (record_in at body d)
+    pub record_found : record_at l at ≡ Ok (Some (record_in at body d))
+    unfolding part
     record_found =
         let long = left_long l (body ++ rest) at split in
         let more = length-append body rest in
         let some = body_long in
-        let w : at + 2 + length body - (at + 2) ≡ length body = omega arith in
-        let is : body ≡ take (at + 2 + length body - (at + 2)) (drop (at + 2) l) =
-        rw (w, after_size l (body ++ rest) at split) (sym (take_at body rest (length body) refl)) in
+        let is : body ≡ part (length body) (at + 2) l = rw (after_size l (body ++ rest) at split) (sym (take_at body rest (length body) refl)) in
         let byte : byte_of c ≡ get_or body 0 0 = sym (ap (λ (x : List ℕ). get_or x 0 0) body_is) in
-        let read : body_read at body ≡ Found (record_in at body d) = rw (← byte, (listed c).template) (body_read_lem at) in
+        let read : body_read at body ≡ Ok (Some (record_in at body d)) = rw (← byte, (listed c).template) (body_read_lem at) in
         sym
         (at_record l at (omega arith) (omega arith) (length body) (size_read l (body ++ rest) at split) (omega arith) (λ z. omega arith)
-        (Found (record_in at body d)) (sym read ∙ ap (body_read at) is))
+        (Ok (Some (record_in at body d))) (sym read ∙ ap (body_read at) is))
 
     tail_here : drop (at + 2 + fixed_bytes (form_of c)) l ≡ tail ++ rest
     tail_here =

@@ -1,13 +1,12 @@
 -- Calls as bytes, and what the writer does: docs/journal.md, 'Format' and 'Writing'. Assumes nothing.
-use Rattle.std.specs.Prelude.{ℕ, ◌+◌, ◌^◌, Bool, false, cond, List, [], ◌∷◌, ◌++◌, leb, ltb, length}
+use Rattle.std.specs.Prelude.{ℕ, ◌+◌, ◌^◌, Bool, false, cond, List, [], ◌∷◌, ◌++◌, leb, ltb, length, Result, Ok, Err}
 use Rattle.prelude.specs.Parts.{put_at}
+use Rattle.tables.specs.declared.answer.Errno.{Errno}
 use Rattle.tables.specs.declared.answer.Errno.TheVariants.{EINVAL, ERANGE}
 use Rattle.calls.specs.declared.Call.{Call}
 use Rattle.calls.specs.Calls.{Request}
 use Rattle.journal.specs.declared.layout.Lent.{Lent}
 use Rattle.journal.specs.declared.layout.Lent.TheVariants.{Nothing, Text, Groups, Buffer}
-use Rattle.journal.specs.declared.write.Written.{Written}
-use Rattle.journal.specs.declared.write.Written.TheVariants.{Length, Refused}
 use Rattle.journal.specs.Numbers.{big_endian, all_big_endian}
 use Rattle.journal.specs.Layout.{version, size_bytes, max_size, name_bytes, number_bytes, byte_of, form_of, names_of, numbers_of}
 
@@ -39,16 +38,16 @@ module _ (c : Call) (text list : List ℕ) (n : ℕ) where
   -- what the writer answers, with a buffer lent to write to from a place on: 22 for a call whose length field would
   -- pass 65,535 or whose buffer's length needs over four bytes, then 34 for a short buffer, else how many bytes the
   -- record has
-  unfoldable pub write_of : List ℕ → ℕ → Written
+  unfoldable pub write_of : List ℕ → ℕ → Result ℕ Errno
   write_of buffer at =
-      cond (ltb max_size (length body_of)) (Refused EINVAL)
-      (cond (long_buffer n (form_of c).lent) (Refused EINVAL)
-      (cond (ltb (length buffer) (at + length record_of)) (Refused ERANGE) (Length (length record_of))))
+      cond (ltb max_size (length body_of)) (Err EINVAL)
+      (cond (long_buffer n (form_of c).lent) (Err EINVAL)
+      (cond (ltb (length buffer) (at + length record_of)) (Err ERANGE) (Ok (length record_of))))
 
   -- what stands in that buffer then: the record, or what was there
-  abbrev pub buffer_by : Written → List ℕ → ℕ → List ℕ
-  buffer_by (Length k) buffer at = put_at buffer at record_of
-  buffer_by (Refused e) buffer at = buffer
+  abbrev pub buffer_by : Result ℕ Errno → List ℕ → ℕ → List ℕ
+  buffer_by (Ok k) buffer at = put_at buffer at record_of
+  buffer_by (Err e) buffer at = buffer
 
 -- ---- a list of calls
 abbrev pub request_record : Request → List ℕ

@@ -1,5 +1,5 @@
 -- The table of docs/journal.md: the byte of each call, and what its record has after it. Assumes nothing.
-use Rattle.std.specs.Prelude.{ℕ, ◌+◌, ◌*◌, cond, List, [], ◌∷◌, eqb, get_or}
+use Rattle.std.specs.Prelude.{ℕ, ◌+◌, ◌*◌, cond, List, [], ◌∷◌, eqb, get_or, Option, Some, None}
 use Rattle.records.specs.declared.Kind.{Kind}
 use Rattle.records.specs.declared.Kind.TheVariants.{User, Group}
 use Rattle.records.specs.Records.{zero_ids}
@@ -7,8 +7,6 @@ use Rattle.credentials.specs.declared.translate.Way.{Way}
 use Rattle.credentials.specs.declared.translate.Way.TheVariants.{Out, Back}
 use Rattle.calls.specs.declared.Call.{Call}
 use Rattle.calls.specs.declared.Call.TheVariants.{Fork, Clone, Unshare, Setns, WriteMap, WriteSetgroups, ReadMap, ReadSetgroups, SetIds, SetGroups, Capable, Drop, OwnIdsOf, Translate}
-use Rattle.journal.specs.declared.layout.Template.{Template}
-use Rattle.journal.specs.declared.layout.Template.TheVariants.{Of, Unknown}
 use Rattle.journal.specs.declared.layout.Lent.{Lent}
 use Rattle.journal.specs.declared.layout.Lent.TheVariants.{Nothing, Text, Groups, Buffer}
 use Rattle.journal.specs.declared.layout.Form.{Form}
@@ -67,11 +65,11 @@ templates =
     ∷ []
 
 -- the one that has the byte
-unfoldable pub with_byte : ℕ → List Call → Template
-with_byte b [] = Unknown
-with_byte b (c ∷ cs) = cond (eqb b (byte_of c)) (Of c) (with_byte b cs)
+unfoldable pub with_byte : ℕ → List Call → Option Call
+with_byte b [] = None
+with_byte b (c ∷ cs) = cond (eqb b (byte_of c)) (Some c) (with_byte b cs)
 
-unfoldable pub template_of : ℕ → Template
+unfoldable pub template_of : ℕ → Option Call
 template_of b = with_byte b templates
 
 -- ---- what a record has after its call byte

@@ -3,4 +3,3 @@ pub mod Layout
 pub mod Journal
 pub mod Reading
 pub mod Laws
-pub mod Arguments

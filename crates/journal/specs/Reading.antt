@@ -1,20 +1,26 @@
 -- What reading bytes gives: docs/journal.md, 'Reading'. Assumes nothing.
-use Rattle.std.specs.Prelude.{ℕ, zero, suc, ◌+◌, ◌*◌, ◌-◌, ◌/◌, ◌%◌, Bool, false, cond, List, [], ◌∷◌, eqb, leb, ltb, length, get_or, replicate}
+use Rattle.std.specs.Prelude.{ℕ, zero, suc, ◌+◌, ◌*◌, ◌-◌, ◌/◌, ◌%◌, Bool, false, cond, List, [], ◌∷◌, eqb, leb, ltb, length, get_or, replicate, Option, Some, None, Result, Ok, Err}
 use Rattle.prelude.specs.Parts.{part, put_at}
-use Rattle.records.specs.declared.Ids.{Ids}
 use Rattle.calls.specs.declared.Call.{Call}
 use Rattle.calls.specs.Calls.{Request}
 use Rattle.journal.specs.declared.layout.Lent.{Lent}
 use Rattle.journal.specs.declared.layout.Lent.TheVariants.{Nothing, Text, Groups, Buffer}
-use Rattle.journal.specs.declared.layout.Template.{Template}
-use Rattle.journal.specs.declared.layout.Template.TheVariants.{Of, Unknown}
 use Rattle.journal.specs.declared.read.Stop.{Stop}
 use Rattle.journal.specs.declared.read.Stop.TheVariants.{Version, Cut, Short, UnknownCall, Leftover}
+use Rattle.journal.specs.declared.read.Stopped.{Stopped}
 use Rattle.journal.specs.declared.read.Record.{Record}
-use Rattle.journal.specs.declared.read.Read.{Read}
-use Rattle.journal.specs.declared.read.Read.TheVariants.{Found, End, Stopped}
 use Rattle.journal.specs.Numbers.{number_at, numbers_at}
 use Rattle.journal.specs.Layout.{version, size_bytes, name_bytes, number_bytes, template_of, form_of, fixed_bytes, call_by}
+
+-- what stands at an offset: a record, the journal's end, or a stop with the offset where the bad record starts
+abbrev pub Read : Type 0
+Read = Result (Option Record) Stopped
+
+abbrev pub stop_at : ℕ → Stop → Stopped
+stop_at at why = record { at = at; why = why }
+
+abbrev pub stopped_at : ℕ → Stop → Read
+stopped_at at why = Err (stop_at at why)
 
 -- ---- a record whether bytes are left after its arguments: after those of a call that has no text and no list any, in
 -- a list those that are no whole ID
@@ -50,10 +56,6 @@ names_in c body = numbers_at name_bytes (form_of c).names 1 body
 abbrev pub numbers_in : Call → List ℕ → List ℕ
 numbers_in c body = numbers_at number_bytes (form_of c).numbers (1 + (form_of c).names * name_bytes) body
 
--- the three numbers after one name, as IDs
-abbrev pub three_in : List ℕ → Ids
-three_in body = record { real = number_at number_bytes 9 body; effective = number_at number_bytes 13 body; saved = number_at number_bytes 17 body }
-
 abbrev pub rest_of : Call → List ℕ → ℕ
 rest_of c body = length body - fixed_bytes (form_of c)
 
@@ -68,11 +70,11 @@ record_in at body c = record {
 }
 
 -- the record at an offset, by the call of its call byte
-unfoldable pub record_by : ℕ → List ℕ → Template → Read
-record_by at body Unknown = Stopped at UnknownCall
-record_by at body (Of c) =
-    cond (ltb (length body) (fixed_bytes (form_of c))) (Stopped at Short)
-    (cond (leftover (form_of c).lent (rest_of c body)) (Stopped at Leftover) (Found (record_in at body c)))
+unfoldable pub record_by : ℕ → List ℕ → Option Call → Read
+record_by at body None = stopped_at at UnknownCall
+record_by at body (Some c) =
+    cond (ltb (length body) (fixed_bytes (form_of c))) (stopped_at at Short)
+    (cond (leftover (form_of c).lent (rest_of c body)) (stopped_at at Leftover) (Ok (Some (record_in at body c))))
 
 abbrev pub body_read : ℕ → List ℕ → Read
 body_read at body = record_by at body (template_of (get_or body 0 0))
@@ -80,15 +82,15 @@ body_read at body = record_by at body (template_of (get_or body 0 0))
 -- the record that starts at an offset of l, if its length and as many bytes as this says are there
 unfoldable pub record_at : List ℕ → ℕ → Read
 record_at l at =
-    cond (leb (length l) at) End
-    (cond (ltb (length l - at) size_bytes) (Stopped at Cut)
-    (cond (ltb (length l - at - size_bytes) (number_at size_bytes at l)) (Stopped at Cut)
-    (cond (eqb (number_at size_bytes at l) 0) (Stopped at Short)
+    cond (leb (length l) at) (Ok None)
+    (cond (ltb (length l - at) size_bytes) (stopped_at at Cut)
+    (cond (ltb (length l - at - size_bytes) (number_at size_bytes at l)) (stopped_at at Cut)
+    (cond (eqb (number_at size_bytes at l) 0) (stopped_at at Short)
     (body_read at (part (number_at size_bytes at l) (at + size_bytes) l)))))
 
 -- what stands at an offset of a journal: at 0 the version byte, with the record after it
 unfoldable pub read_at : List ℕ → ℕ → Read
-read_at l at = cond (ltb 0 at) (record_at l at) (cond (eqb (length l) 0) (Stopped 0 Version) (cond (eqb (get_or l 0 0) version) (record_at l 1) (Stopped 0 Version)))
+read_at l at = cond (ltb 0 at) (record_at l at) (cond (eqb (length l) 0) (stopped_at 0 Version) (cond (eqb (get_or l 0 0) version) (record_at l 1) (stopped_at 0 Version)))
 
 -- ---- the call of a record, with what is lent beside it: its text is a part of the journal, and its buffer holds zeros
 abbrev pub ids_at : List ℕ → Record → List ℕ
@@ -99,9 +101,9 @@ request_at l r = record { call = r.call; text = part r.text r.tail l; list = ids
 
 -- a lent list with the IDs of what was read at its start
 abbrev pub list_after : List ℕ → Read → List ℕ → List ℕ
-list_after l (Found r) list = put_at list 0 (ids_at l r)
-list_after l End list = list
-list_after l (Stopped at why) list = list
+list_after l (Ok (Some r)) list = put_at list 0 (ids_at l r)
+list_after l (Ok None) list = list
+list_after l (Err s) list = list
 
 -- ---- a whole journal
 -- the reading ended well, or stopped: the bad record's offset, and why
@@ -118,9 +120,9 @@ before r x = record { calls = r ∷ x.calls; ending = x.ending }
 
 -- what follows what stands at an offset
 abbrev pub go_on : List ℕ → Read → (ℕ → Reading) → Reading
-go_on l (Found r) rest = before (request_at l r) (rest r.next)
-go_on l End rest = record { calls = []; ending = ended }
-go_on l (Stopped at why) rest = record { calls = []; ending = stopped at why }
+go_on l (Ok (Some r)) rest = before (request_at l r) (rest r.next)
+go_on l (Ok None) rest = record { calls = []; ending = ended }
+go_on l (Err s) rest = record { calls = []; ending = stopped s.at s.why }
 
 -- the calls from an offset on, fewer than n
 unfoldable pub read_from : ℕ → List ℕ → ℕ → Reading

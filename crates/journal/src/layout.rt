@@ -1,12 +1,12 @@
 // The call bytes, and what a call's record has after its call byte: the table of docs/journal.md. A byte that is given
 // never changes.
 ghost use Rattle.std.specs.Prelude.{◌≡◌};
-ghost use Rattle.journal.specs.Layout.{by_kind, by_way, byte_of, template_of, form_by, form_of, fixed_bytes, names_of, numbers_of, first_three};
+ghost use Rattle.journal.specs.Layout.{by_kind, by_way, byte_of, template_of, form_by, form_of, fixed_bytes, names_of, numbers_of, first_three, call_by};
 
 use crate::{NAME_BYTES, NUMBER_BYTES};
 use calls::Call;
 use credentials::translate::Way;
-use records::{Kind, ZERO_IDS};
+use records::{Ids, Kind, ZERO_IDS};
 
 pub const FORK: u8 = 0x10;
 
@@ -68,6 +68,7 @@ fn translate_byte(kind: Kind, way: Way) -> u8
 }
 
 // The call byte of a call.
+#[tactic(auto, unfolding(crate::specs::Layout::byte_of))]
 pub fn byte_of(c: Call) -> u8
     ensures { result ≡ byte_of c }
 {
@@ -90,37 +91,32 @@ pub fn byte_of(c: Call) -> u8
 }
 
 // The call of a call byte, with all its numbers 0, if there is one.
-#[derive(Clone, Copy)]
-pub enum Template {
-    Of(Call),
-    Unknown,
-}
-
-pub fn template_of(byte: u8) -> Template
+#[tactic(auto, using(crate::proofs::Layouts::template_none), unfolding(crate::specs::Layout::template_of, crate::specs::Layout::with_byte, crate::specs::Layout::byte_of))]
+pub fn template_of(byte: u8) -> Option<Call>
     ensures { result ≡ template_of byte }
 {
     match byte {
-        FORK => Template::Of(Call::Fork(0)),
-        CLONE => Template::Of(Call::Clone(0)),
-        UNSHARE => Template::Of(Call::Unshare(0)),
-        SETNS => Template::Of(Call::Setns(0, 0)),
-        WRITE_UID_MAP => Template::Of(Call::WriteMap(Kind::User, 0, 0)),
-        WRITE_GID_MAP => Template::Of(Call::WriteMap(Kind::Group, 0, 0)),
-        WRITE_SETGROUPS => Template::Of(Call::WriteSetgroups(0, 0)),
-        READ_UID_MAP => Template::Of(Call::ReadMap(Kind::User, 0, 0)),
-        READ_GID_MAP => Template::Of(Call::ReadMap(Kind::Group, 0, 0)),
-        READ_SETGROUPS => Template::Of(Call::ReadSetgroups(0, 0)),
-        SETRESUID => Template::Of(Call::SetIds(Kind::User, 0, ZERO_IDS)),
-        SETRESGID => Template::Of(Call::SetIds(Kind::Group, 0, ZERO_IDS)),
-        SETGROUPS => Template::Of(Call::SetGroups(0)),
-        CAPSET => Template::Of(Call::Drop(0, 0, 0)),
-        GETIDS => Template::Of(Call::OwnIdsOf(0)),
-        CAPABLE => Template::Of(Call::Capable(0, 0, 0)),
-        TRANSLATE_UID_OUT => Template::Of(Call::Translate(Kind::User, Way::Out, 0, 0, 0)),
-        TRANSLATE_UID_BACK => Template::Of(Call::Translate(Kind::User, Way::Back, 0, 0, 0)),
-        TRANSLATE_GID_OUT => Template::Of(Call::Translate(Kind::Group, Way::Out, 0, 0, 0)),
-        TRANSLATE_GID_BACK => Template::Of(Call::Translate(Kind::Group, Way::Back, 0, 0, 0)),
-        _ => Template::Unknown,
+        FORK => Some(Call::Fork(0)),
+        CLONE => Some(Call::Clone(0)),
+        UNSHARE => Some(Call::Unshare(0)),
+        SETNS => Some(Call::Setns(0, 0)),
+        WRITE_UID_MAP => Some(Call::WriteMap(Kind::User, 0, 0)),
+        WRITE_GID_MAP => Some(Call::WriteMap(Kind::Group, 0, 0)),
+        WRITE_SETGROUPS => Some(Call::WriteSetgroups(0, 0)),
+        READ_UID_MAP => Some(Call::ReadMap(Kind::User, 0, 0)),
+        READ_GID_MAP => Some(Call::ReadMap(Kind::Group, 0, 0)),
+        READ_SETGROUPS => Some(Call::ReadSetgroups(0, 0)),
+        SETRESUID => Some(Call::SetIds(Kind::User, 0, ZERO_IDS)),
+        SETRESGID => Some(Call::SetIds(Kind::Group, 0, ZERO_IDS)),
+        SETGROUPS => Some(Call::SetGroups(0)),
+        CAPSET => Some(Call::Drop(0, 0, 0)),
+        GETIDS => Some(Call::OwnIdsOf(0)),
+        CAPABLE => Some(Call::Capable(0, 0, 0)),
+        TRANSLATE_UID_OUT => Some(Call::Translate(Kind::User, Way::Out, 0, 0, 0)),
+        TRANSLATE_UID_BACK => Some(Call::Translate(Kind::User, Way::Back, 0, 0, 0)),
+        TRANSLATE_GID_OUT => Some(Call::Translate(Kind::Group, Way::Out, 0, 0, 0)),
+        TRANSLATE_GID_BACK => Some(Call::Translate(Kind::Group, Way::Back, 0, 0, 0)),
+        _ => None,
     }
 }
 
@@ -142,39 +138,34 @@ pub struct Form {
     pub lent: Lent,
 }
 
-fn made_of(names: usize, numbers: usize, lent: Lent) -> Form
-    ensures { result ≡ form_by names numbers lent }
-{
-    Form {
-        names: names,
-        numbers: numbers,
-        lent: lent,
-    }
-}
-
+#[tactic(auto, unfolding(crate::specs::Layout::form_of))]
 pub fn form_of(c: Call) -> Form
     ensures { result ≡ form_of c }
 {
-    match c {
-        Call::Fork(_) => made_of(1, 0, Lent::Nothing),
-        Call::Clone(_) => made_of(1, 0, Lent::Nothing),
-        Call::Unshare(_) => made_of(1, 0, Lent::Nothing),
-        Call::Setns(_, _) => made_of(2, 0, Lent::Nothing),
-        Call::WriteMap(_, _, _) => made_of(2, 0, Lent::Text),
-        Call::WriteSetgroups(_, _) => made_of(2, 0, Lent::Text),
-        Call::ReadMap(_, _, _) => made_of(2, 1, Lent::Buffer),
-        Call::ReadSetgroups(_, _) => made_of(2, 1, Lent::Buffer),
-        Call::SetIds(_, _, _) => made_of(1, 3, Lent::Nothing),
-        Call::SetGroups(_) => made_of(1, 0, Lent::Groups),
-        Call::Capable(_, _, _) => made_of(2, 1, Lent::Nothing),
-        Call::Drop(_, _, _) => made_of(3, 0, Lent::Nothing),
-        Call::OwnIdsOf(_) => made_of(1, 0, Lent::Nothing),
-        Call::Translate(_, _, _, _, _) => made_of(2, 1, Lent::Nothing),
+    let (names, numbers, lent) = match c {
+        Call::Fork(_) | Call::Clone(_) | Call::Unshare(_) | Call::OwnIdsOf(_) => (
+            1,
+            0,
+            Lent::Nothing,
+        ),
+        Call::Setns(_, _) => (2, 0, Lent::Nothing),
+        Call::WriteMap(_, _, _) | Call::WriteSetgroups(_, _) => (2, 0, Lent::Text),
+        Call::ReadMap(_, _, _) | Call::ReadSetgroups(_, _) => (2, 1, Lent::Buffer),
+        Call::SetIds(_, _, _) => (1, 3, Lent::Nothing),
+        Call::SetGroups(_) => (1, 0, Lent::Groups),
+        Call::Capable(_, _, _) | Call::Translate(_, _, _, _, _) => (2, 1, Lent::Nothing),
+        Call::Drop(_, _, _) => (3, 0, Lent::Nothing),
+    };
+    Form {
+        names,
+        numbers,
+        lent,
     }
 }
 
 // The bytes of a call's record before a text or a list, without the record's length: the call byte, the names and the
 // other numbers.
+#[tactic(auto, using(crate::proofs::Layouts::few_names, crate::proofs::Layouts::few_numbers))]
 pub fn fixed_bytes(c: Call) -> usize
     ensures { result ≡ fixed_bytes (form_of c) }
 {
@@ -183,45 +174,81 @@ pub fn fixed_bytes(c: Call) -> usize
 }
 
 // The names of a call in order, the caller first, and 0 past the last.
+#[tactic(auto, unfolding(crate::specs::Layout::names_of))]
 pub fn names_of(c: Call) -> [u64; 3]
     ensures { result ≡ first_three (names_of c) }
 {
     match c {
-        Call::Fork(a) => [a, 0, 0],
-        Call::Clone(a) => [a, 0, 0],
-        Call::Unshare(a) => [a, 0, 0],
-        Call::Setns(a, b) => [a, b, 0],
-        Call::WriteMap(_, a, b) => [a, b, 0],
-        Call::WriteSetgroups(a, b) => [a, b, 0],
-        Call::ReadMap(_, a, b) => [a, b, 0],
-        Call::ReadSetgroups(a, b) => [a, b, 0],
-        Call::SetIds(_, a, _) => [a, 0, 0],
-        Call::SetGroups(a) => [a, 0, 0],
-        Call::Capable(a, b, _) => [a, b, 0],
+        Call::Fork(a)
+        | Call::Clone(a)
+        | Call::Unshare(a)
+        | Call::SetIds(_, a, _)
+        | Call::SetGroups(a)
+        | Call::OwnIdsOf(a) => [a, 0, 0],
+        Call::Setns(a, b)
+        | Call::WriteMap(_, a, b)
+        | Call::WriteSetgroups(a, b)
+        | Call::ReadMap(_, a, b)
+        | Call::ReadSetgroups(a, b)
+        | Call::Capable(a, b, _)
+        | Call::Translate(_, _, a, b, _) => [a, b, 0],
         Call::Drop(a, b, d) => [a, b, d],
-        Call::OwnIdsOf(a) => [a, 0, 0],
-        Call::Translate(_, _, a, b, _) => [a, b, 0],
     }
 }
 
 // The other numbers of a call in order, where a read has its buffer's length, and 0 past the last.
+#[tactic(auto, unfolding(crate::specs::Layout::numbers_of))]
 pub fn numbers_of(c: Call, buffer_length: u64) -> [u64; 3]
     ensures { result ≡ first_three (numbers_of c buffer_length) }
 {
     match c {
-        Call::Fork(_) => [0, 0, 0],
-        Call::Clone(_) => [0, 0, 0],
-        Call::Unshare(_) => [0, 0, 0],
-        Call::Setns(_, _) => [0, 0, 0],
-        Call::WriteMap(_, _, _) => [0, 0, 0],
-        Call::WriteSetgroups(_, _) => [0, 0, 0],
-        Call::ReadMap(_, _, _) => [buffer_length, 0, 0],
-        Call::ReadSetgroups(_, _) => [buffer_length, 0, 0],
-        Call::SetIds(_, _, i) => [i.real as u64, i.effective as u64, i.saved as u64],
-        Call::SetGroups(_) => [0, 0, 0],
-        Call::Capable(_, _, x) => [x as u64, 0, 0],
-        Call::Drop(_, _, _) => [0, 0, 0],
-        Call::OwnIdsOf(_) => [0, 0, 0],
-        Call::Translate(_, _, _, _, x) => [x as u64, 0, 0],
+        Call::Fork(_)
+        | Call::Clone(_)
+        | Call::Unshare(_)
+        | Call::Setns(_, _)
+        | Call::WriteMap(_, _, _)
+        | Call::WriteSetgroups(_, _)
+        | Call::SetGroups(_)
+        | Call::Drop(_, _, _)
+        | Call::OwnIdsOf(_) => [0, 0, 0],
+        Call::ReadMap(_, _, _) | Call::ReadSetgroups(_, _) => [buffer_length, 0, 0],
+        Call::SetIds(_, _, i) => [
+            u64::from(i.real),
+            u64::from(i.effective),
+            u64::from(i.saved),
+        ],
+        Call::Capable(_, _, x) | Call::Translate(_, _, _, _, x) => [u64::from(x), 0, 0],
+    }
+}
+
+// The call of a template with the names and the other numbers that stand in order in two arrays.
+#[tactic(auto, unfolding(crate::specs::Layout::call_by))]
+pub fn call_by(c: Call, names: &[u64; 3], numbers: &[u32; 3]) -> Call
+    ensures { result ≡ call_by c names.now numbers.now }
+{
+    match c {
+        Call::Fork(_) => Call::Fork(names[0]),
+        Call::Clone(_) => Call::Clone(names[0]),
+        Call::Unshare(_) => Call::Unshare(names[0]),
+        Call::Setns(_, _) => Call::Setns(names[0], names[1]),
+        Call::WriteMap(kind, _, _) => Call::WriteMap(kind, names[0], names[1]),
+        Call::WriteSetgroups(_, _) => Call::WriteSetgroups(names[0], names[1]),
+        Call::ReadMap(kind, _, _) => Call::ReadMap(kind, names[0], names[1]),
+        Call::ReadSetgroups(_, _) => Call::ReadSetgroups(names[0], names[1]),
+        Call::SetIds(kind, _, _) => {
+            let ids = Ids {
+                real: numbers[0],
+                effective: numbers[1],
+                saved: numbers[2],
+            };
+            Call::SetIds(kind, names[0], ids)
+        }
+        Call::SetGroups(_) => Call::SetGroups(names[0]),
+        Call::Capable(_, _, _) => Call::Capable(names[0], names[1], numbers[0]),
+        Call::Drop(_, _, _) => Call::Drop(names[0], names[1], names[2]),
+        Call::OwnIdsOf(_) => Call::OwnIdsOf(names[0]),
+        Call::Translate(kind, way, _, _, _) => Call::Translate(
+            kind, way, names[0], names[1], numbers[0],
+        ),
     }
 }

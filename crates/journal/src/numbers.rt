@@ -1,107 +1,101 @@
 // Numbers as bytes, the highest byte first.
-ghost use Rattle.std.specs.Prelude.{◌≡◌, [], ◌∷◌, ◌+◌, ◌*◌, ◌≤◌, ◌<◌, ◌^◌, length};
-ghost use Rattle.prelude.specs.Parts.{put_at};
-ghost use Rattle.journal.specs.Numbers.{big_endian, all_big_endian, number_from, number_at, numbers_at};
+ghost use Rattle.std.specs.Prelude.{◌≡◌, ℕ, ◌+◌, ◌*◌, ◌≤◌, length, map};
+ghost use Rattle.prelude.specs.Parts.{part, put_at};
+ghost use Rattle.journal.specs.Numbers.{big_endian, all_big_endian, number_at, numbers_at};
 
-use crate::{NAME_BYTES, NUMBER_BYTES};
-use idmap::TWO_TO_32;
+use crate::NUMBER_BYTES;
 
-// Stores the lowest `width` bytes of a number, from the last one on.
-pub(crate) fn put_number(buffer: &mut [u8], at: usize, width: usize, x: u64)
-    requires { at + width ≤ length buffer.old }
-    ensures { buffer.new ≡ put_at buffer.old at (big_endian width x) }
-{
-    let mut left = x;
-    let mut k = width;
-    while 0 < k {
-        k -= 1;
-        buffer[at + k] = (left % 256) as u8;
-        left = left / 256;
+// A number that is stored.
+pub(crate) trait Number: Copy {
+    ghost value: { Self → ℕ };
+
+    fn value(self) -> u64
+        ensures { result ≡ value self };
+}
+
+impl Number for u64 {
+    ghost value = { λ x. x };
+
+    fn value(self) -> u64 {
+        self
     }
 }
 
+impl Number for u32 {
+    ghost value = { λ x. x };
+
+    fn value(self) -> u64 {
+        u64::from(self)
+    }
+}
+
+// Stores the lowest `width` bytes of a number.
+#[tactic(auto, using(crate::proofs::Puts::number_put))]
+pub(crate) fn put_number(buffer: &mut [u8], at: usize, width: usize, x: u64)
+    requires { (width ≤ 8) × (at + width ≤ length buffer.old) }
+    ensures { buffer.new ≡ put_at buffer.old at (big_endian width x) }
+{
+    buffer[at..at + width].copy_from_slice(&x.to_be_bytes()[8 - width..]);
+}
+
 // Stores numbers of `width` bytes each, one after the other.
-pub(crate) fn put_numbers(buffer: &mut [u8], at: usize, width: usize, numbers: &[u64])
-    requires { at + length (all_big_endian width numbers.now) ≤ length buffer.old }
-    ensures { buffer.new ≡ put_at buffer.old at (all_big_endian width numbers.now) }
+pub(crate) fn put_numbers<T: Number>(buffer: &mut [u8], at: usize, width: usize, numbers: &[T])
+    requires width { width ≤ 8 }
+    requires room { at + length (all_big_endian width (map T.value numbers.now)) ≤ length buffer.old }
+    ensures { buffer.new ≡ put_at buffer.old at (all_big_endian width (map T.value numbers.now)) }
 {
     let mut place = at;
-    for i in 0..numbers.len() {
-        put_number(buffer, place, width, numbers[i]);
+    for x in numbers {
+        put_number(buffer, place, width, x.value());
         place += width;
     }
 }
 
-fn wide(x: u32) -> u64
-    ensures { result ≡ x }
+// The bytes at a place.
+#[tactic(auto, unfolding(prelude::specs::Parts::part))]
+fn bytes_at<const W: usize>(s: &[u8], at: usize) -> [u8; W]
+    requires { at + W ≤ length s.now }
+    ensures { result ≡ part W at s.now }
 {
-    x as u64
+    let mut bytes = [0; W];
+    bytes.copy_from_slice(&s[at..at + W]);
+    bytes
 }
 
-// Stores a list of IDs.
-pub(crate) fn put_list(buffer: &mut [u8], at: usize, list: &[u32])
-    requires { at + length (all_big_endian 4 list.now) ≤ length buffer.old }
-    ensures { buffer.new ≡ put_at buffer.old at (all_big_endian 4 list.now) }
+// The length of two bytes at a place.
+#[tactic(auto, using(crate::proofs::Gets::size_read))]
+pub(crate) fn size_at(s: &[u8], at: usize) -> usize
+    requires { at + 2 ≤ length s.now }
+    ensures { result ≡ number_at 2 at s.now }
 {
-    let mut place = at;
-    for i in 0..list.len() {
-        put_number(buffer, place, NUMBER_BYTES, wide(list[i]));
-        place += NUMBER_BYTES;
-    }
-}
-
-pub(crate) fn of_two(s: &[u8]) -> usize
-    requires { length s.now ≡ 2 }
-    ensures { result ≡ number_from 0 s.now }
-{
-    of_bytes(0, 0, s[0], s[1]) as usize
-}
-
-fn of_bytes(a: u8, b: u8, c: u8, d: u8) -> u32
-    ensures { result ≡ number_from 0 (a ∷ b ∷ c ∷ d ∷ []) }
-{
-    ((a as u32 * 256 + b as u32) * 256 + c as u32) * 256 + d as u32
-}
-
-fn of_four(s: &[u8]) -> u32
-    requires { length s.now ≡ 4 }
-    ensures { result ≡ number_from 0 s.now }
-{
-    of_bytes(s[0], s[1], s[2], s[3])
-}
-
-fn of_eight(s: &[u8]) -> u64
-    requires { length s.now ≡ 8 }
-    ensures { result ≡ number_from 0 s.now }
-{
-    let high = of_bytes(s[0], s[1], s[2], s[3]);
-    let low = of_bytes(s[4], s[5], s[6], s[7]);
-    high as u64 * TWO_TO_32 + low as u64
+    usize::from(u16::from_be_bytes(bytes_at(s, at)))
 }
 
 // The number of four bytes at a place.
+#[tactic(auto, using(crate::proofs::Gets::number_read))]
 pub(crate) fn number_at(s: &[u8], at: usize) -> u32
     requires { at + 4 ≤ length s.now }
     ensures { result ≡ number_at 4 at s.now }
 {
-    let end = at + NUMBER_BYTES;
-    of_four(&s[at..end])
+    u32::from_be_bytes(bytes_at(s, at))
 }
 
 // The name of eight bytes at a place.
+#[tactic(auto, using(crate::proofs::Gets::name_read))]
 pub(crate) fn name_at(s: &[u8], at: usize) -> u64
     requires { at + 8 ≤ length s.now }
     ensures { result ≡ number_at 8 at s.now }
 {
-    let end = at + NAME_BYTES;
-    of_eight(&s[at..end])
+    u64::from_be_bytes(bytes_at(s, at))
 }
 
 // Puts the numbers of four bytes from a place on into a list.
+#[tactic(auto, using(crate::proofs::Gets::gets))]
 pub(crate) fn load_list(s: &[u8], at: usize, count: usize, list: &mut [u32])
     requires { (at + 4 * count ≤ length s.now) × (count ≤ length list.old) }
     ensures { list.new ≡ put_at list.old 0 (numbers_at 4 count at s.now) }
 {
+    // By index: nothing is known of what a zip over `iter_mut` writes.
     for i in 0..count {
         list[i] = number_at(s, at + NUMBER_BYTES * i);
     }

@@ -1,15 +1,13 @@
 // The reader: the call of the record at an offset of a journal.
-ghost use Rattle.std.specs.Prelude.{◌≡◌, ◌+◌, ◌*◌, ◌≤◌, ◌<◌, ◌^◌, length};
-ghost use Rattle.journal.specs.declared.layout.Template.TheVariants.{Of};
-ghost use Rattle.journal.specs.Numbers.{number_at};
+ghost use Rattle.std.specs.Prelude.{◌≡◌, ◌+◌, ◌*◌, ◌≤◌, ◌<◌, ◌^◌, length, get_or, Some};
+ghost use Rattle.journal.specs.Numbers.{number_at, numbers_at};
 ghost use Rattle.journal.specs.Layout.{form_of, fixed_bytes, call_by};
-ghost use Rattle.journal.specs.Reading.{leftover, text_bytes, id_count, buffer_length, three_in, names_in, numbers_in, record_by, body_read, record_at, read_at, list_after};
+ghost use Rattle.journal.specs.Reading.{leftover, text_bytes, id_count, buffer_length, names_in, numbers_in, stop_at, record_by, body_read, record_at, read_at, list_after};
 
-use crate::layout::{Lent, Template};
+use crate::layout::{Form, Lent};
 use crate::numbers::{name_at, number_at};
 use crate::{MAX_IDS, NAME_BYTES, NUMBER_BYTES, SIZE_BYTES, VERSION, layout, numbers};
 use calls::Call;
-use records::Ids;
 
 // Why the reading of a journal stops.
 #[derive(Clone, Copy)]
@@ -38,89 +36,68 @@ pub struct Record {
     pub next: usize,
 }
 
-// What stands at an offset: a record, the journal's end, or a stop with the offset where the bad record starts.
+// A stop, with the offset where the bad record starts.
 #[derive(Clone, Copy)]
-pub enum Read {
-    Found(Record),
-    End,
-    Stopped(usize, Stop),
+pub struct Stopped {
+    pub at: usize,
+    pub why: Stop,
 }
 
-// Where the names of a record stand after its length, and where its numbers do after one name.
-const FIRST: usize = 1;
+impl Stop {
+    fn at(self, at: usize) -> Stopped
+        ensures { result ≡ stop_at at self }
+    {
+        Stopped { at, why: self }
+    }
+}
 
-const SECOND: usize = FIRST + NAME_BYTES;
+// What stands at an offset: a record, the journal's end, or a stop.
+pub type Read = Result<Option<Record>, Stopped>;
 
-const THIRD: usize = SECOND + NAME_BYTES;
-
-const SECOND_NUMBER: usize = SECOND + NUMBER_BYTES;
-
-const THIRD_NUMBER: usize = SECOND_NUMBER + NUMBER_BYTES;
-
-// The three IDs after a record's one name.
-fn ids_in(body: &[u8]) -> Ids
-    requires { 21 ≤ length body.now }
-    ensures { result ≡ three_in body.now }
+// A name of a record, or 0 past the last.
+#[tactic(auto, using(crate::proofs::Gets::numbers_get, crate::proofs::Gets::numbers_past))]
+fn name_in(body: &[u8], form: Form, i: usize) -> u64
+    requires { fixed_bytes form ≤ length body.now }
+    ensures { result ≡ get_or (numbers_at 8 form.names 1 body.now) i 0 }
 {
-    Ids {
-        real: number_at(body, SECOND),
-        effective: number_at(body, SECOND_NUMBER),
-        saved: number_at(body, THIRD_NUMBER),
+    if i < form.names {
+        name_at(body, 1 + NAME_BYTES * i)
+    } else {
+        0
+    }
+}
+
+// Another number of a record, or 0 past the last.
+#[tactic(auto, using(crate::proofs::Gets::numbers_get, crate::proofs::Gets::numbers_past))]
+fn number_in(body: &[u8], form: Form, i: usize) -> u32
+    requires { fixed_bytes form ≤ length body.now }
+    ensures { result ≡ get_or (numbers_at 4 form.numbers (1 + form.names * 8) body.now) i 0 }
+{
+    if i < form.numbers {
+        number_at(body, 1 + form.names * NAME_BYTES + NUMBER_BYTES * i)
+    } else {
+        0
     }
 }
 
 // The call of a template, with the arguments that stand in a record after its length.
+#[tactic(auto, using(crate::proofs::Table::by_three))]
 fn call_in(c: Call, body: &[u8]) -> Call
     requires { fixed_bytes (form_of c) ≤ length body.now }
     ensures { result ≡ call_by c (names_in c body.now) (numbers_in c body.now) }
 {
-    match c {
-        Call::Fork(_) => Call::Fork(name_at(body, FIRST)),
-        Call::Clone(_) => Call::Clone(name_at(body, FIRST)),
-        Call::Unshare(_) => Call::Unshare(name_at(body, FIRST)),
-        Call::Setns(_, _) => Call::Setns(name_at(body, FIRST), name_at(body, SECOND)),
-        Call::WriteMap(kind, _, _) => Call::WriteMap(
-            kind,
-            name_at(body, FIRST),
-            name_at(body, SECOND),
-        ),
-        Call::WriteSetgroups(_, _) => Call::WriteSetgroups(
-            name_at(body, FIRST),
-            name_at(body, SECOND),
-        ),
-        Call::ReadMap(kind, _, _) => Call::ReadMap(
-            kind,
-            name_at(body, FIRST),
-            name_at(body, SECOND),
-        ),
-        Call::ReadSetgroups(_, _) => Call::ReadSetgroups(
-            name_at(body, FIRST),
-            name_at(body, SECOND),
-        ),
-        Call::SetIds(kind, _, _) => {
-            let caller = name_at(body, FIRST);
-            Call::SetIds(kind, caller, ids_in(body))
-        }
-        Call::SetGroups(_) => Call::SetGroups(name_at(body, FIRST)),
-        Call::Capable(_, _, _) => Call::Capable(
-            name_at(body, FIRST),
-            name_at(body, SECOND),
-            number_at(body, THIRD),
-        ),
-        Call::Drop(_, _, _) => Call::Drop(
-            name_at(body, FIRST),
-            name_at(body, SECOND),
-            name_at(body, THIRD),
-        ),
-        Call::OwnIdsOf(_) => Call::OwnIdsOf(name_at(body, FIRST)),
-        Call::Translate(kind, way, _, _, _) => Call::Translate(
-            kind,
-            way,
-            name_at(body, FIRST),
-            name_at(body, SECOND),
-            number_at(body, THIRD),
-        ),
-    }
+    let form = layout::form_of(c);
+    let names = [
+        name_in(body, form, 0),
+        name_in(body, form, 1),
+        name_in(body, form, 2),
+    ];
+    let numbers = [
+        number_in(body, form, 0),
+        number_in(body, form, 1),
+        number_in(body, form, 2),
+    ];
+    layout::call_by(c, &names, &numbers)
 }
 
 // Whether bytes are left after a record's arguments: of a list those that are no whole ID.
@@ -128,10 +105,9 @@ fn left_over(lent: Lent, rest: usize) -> bool
     ensures { result ≡ leftover lent rest }
 {
     match lent {
-        Lent::Nothing => rest > 0,
+        Lent::Nothing | Lent::Buffer => rest > 0,
         Lent::Text => false,
         Lent::Groups => rest % NUMBER_BYTES > 0,
-        Lent::Buffer => rest > 0,
     }
 }
 
@@ -139,10 +115,8 @@ fn text_bytes(lent: Lent, rest: usize) -> usize
     ensures { result ≡ text_bytes lent rest }
 {
     match lent {
-        Lent::Nothing => 0,
         Lent::Text => rest,
-        Lent::Groups => 0,
-        Lent::Buffer => 0,
+        Lent::Nothing | Lent::Groups | Lent::Buffer => 0,
     }
 }
 
@@ -150,10 +124,8 @@ fn id_count(lent: Lent, rest: usize) -> usize
     ensures { result ≡ id_count lent rest }
 {
     match lent {
-        Lent::Nothing => 0,
-        Lent::Text => 0,
         Lent::Groups => rest / NUMBER_BYTES,
-        Lent::Buffer => 0,
+        Lent::Nothing | Lent::Text | Lent::Buffer => 0,
     }
 }
 
@@ -162,96 +134,81 @@ fn buffer_length(c: Call, body: &[u8]) -> u32
     requires { fixed_bytes (form_of c) ≤ length body.now }
     ensures { result ≡ buffer_length (form_of c).lent (numbers_in c body.now) }
 {
-    let f = layout::form_of(c);
-    let lent = f.lent;
-    match lent {
-        Lent::Nothing => 0,
-        Lent::Text => 0,
-        Lent::Groups => 0,
-        Lent::Buffer => number_at(body, THIRD),
+    let form = layout::form_of(c);
+    match form.lent {
+        Lent::Buffer => number_in(body, form, 0),
+        Lent::Nothing | Lent::Text | Lent::Groups => 0,
     }
 }
 
 // The record at an offset, of a template's call, with what stands in it after its length.
+#[tactic(auto, using(std::proofs::lemmas::Bool::Decides::nat_tests), unfolding(crate::specs::Reading::record_by))]
 fn record_in(at: usize, body: &[u8], c: Call) -> Read
     requires { at + 2 + length body.now < 2 ^ 64 }
-    ensures { result ≡ record_by at body.now (Of c) }
+    ensures { result ≡ record_by at body.now (Some c) }
 {
     let size = body.len();
     let next = at + SIZE_BYTES + size;
     let fixed = layout::fixed_bytes(c);
     // A record has all the arguments of its call.
     if size < fixed {
-        return Read::Stopped(at, Stop::Short);
+        return Err(Stop::Short.at(at));
     }
-    let f = layout::form_of(c);
-    let lent = f.lent;
+    let lent = layout::form_of(c).lent;
     let rest = size - fixed;
     // And nothing after them.
     if left_over(lent, rest) {
-        return Read::Stopped(at, Stop::Leftover);
+        return Err(Stop::Leftover.at(at));
     }
-    let call = call_in(c, body);
-    let buffer = buffer_length(c, body);
-    let text = text_bytes(lent, rest);
-    let ids = id_count(lent, rest);
-    Read::Found(Record {
-        call: call,
+    Ok(Some(Record {
+        call: call_in(c, body),
         tail: at + SIZE_BYTES + fixed,
-        text: text,
-        ids: ids,
-        buffer: buffer,
-        next: next,
-    })
+        text: text_bytes(lent, rest),
+        ids: id_count(lent, rest),
+        buffer: buffer_length(c, body),
+        next,
+    }))
 }
 
 // The record at an offset, with what stands in it after its length.
+#[tactic(auto, using(std::proofs::lemmas::Bool::Decides::nat_tests), unfolding(crate::specs::Reading::record_by))]
 fn record_of(at: usize, body: &[u8]) -> Read
     requires { (0 < length body.now) × (at + 2 + length body.now < 2 ^ 64) }
     ensures { result ≡ body_read at body.now }
 {
-    match layout::template_of(body[0]) {
-        Template::Of(c) => record_in(at, body, c),
-        Template::Unknown => Read::Stopped(at, Stop::UnknownCall),
-    }
-}
-
-// The length that stands at an offset.
-fn size_at(journal: &[u8], at: usize) -> usize
-    requires { at + 2 ≤ length journal.now }
-    ensures { result ≡ number_at 2 at journal.now }
-{
-    let end = at + SIZE_BYTES;
-    numbers::of_two(&journal[at..end])
+    let call = layout::template_of(body[0]).ok_or(Stop::UnknownCall.at(at))?;
+    record_in(at, body, call)
 }
 
 // The record at an offset past the version byte.
+#[tactic(auto, using(std::proofs::lemmas::Bool::Decides::nat_tests), unfolding(crate::specs::Reading::record_at, prelude::specs::Parts::part))]
 fn record_at(journal: &[u8], at: usize) -> Read
     ensures { result ≡ record_at journal.now at }
 {
     if journal.len() <= at {
-        return Read::End;
+        return Ok(None);
     }
     let left = journal.len() - at;
     // The two bytes of its length are there.
     if left < SIZE_BYTES {
-        return Read::Stopped(at, Stop::Cut);
+        return Err(Stop::Cut.at(at));
     }
     let start = at + SIZE_BYTES;
-    let size = size_at(journal, at);
+    let size = numbers::size_at(journal, at);
     // And as many as it says.
     if left - SIZE_BYTES < size {
-        return Read::Stopped(at, Stop::Cut);
+        return Err(Stop::Cut.at(at));
     }
     // A record has a call byte.
     if size == 0 {
-        return Read::Stopped(at, Stop::Short);
+        return Err(Stop::Short.at(at));
     }
     let end = start + size;
     record_of(at, &journal[start..end])
 }
 
 // The record at an offset; at 0 the version byte is read, and the record after it.
+#[tactic(auto, using(std::proofs::lemmas::Bool::Decides::nat_tests), unfolding(crate::specs::Reading::read_at))]
 fn version_then_record(journal: &[u8], at: usize) -> Read
     ensures { result ≡ read_at journal.now at }
 {
@@ -259,11 +216,8 @@ fn version_then_record(journal: &[u8], at: usize) -> Read
         return record_at(journal, at);
     }
     // A journal begins with its version.
-    if journal.len() == 0 {
-        return Read::Stopped(0, Stop::Version);
-    }
-    if journal[0] != VERSION {
-        return Read::Stopped(0, Stop::Version);
+    if journal.is_empty() || journal[0] != VERSION {
+        return Err(Stop::Version.at(0));
     }
     record_at(journal, 1)
 }
@@ -275,15 +229,9 @@ pub fn read_record(journal: &[u8], at: usize, list: &mut [u32; MAX_IDS]) -> Read
     ensures answer { result ≡ read_at journal.now at }
     ensures ids { list.new ≡ list_after journal.now (read_at journal.now at) list.old }
 {
-    let read = version_then_record(journal, at);
-    match read {
-        Read::Found(r) => {
-            let tail = r.tail;
-            let ids = r.ids;
-            numbers::load_list(journal, tail, ids, list);
-            Read::Found(r)
-        }
-        Read::End => Read::End,
-        Read::Stopped(offset, why) => Read::Stopped(offset, why),
+    let found = version_then_record(journal, at)?;
+    if let Some(r) = found {
+        numbers::load_list(journal, r.tail, r.ids, list);
     }
+    Ok(found)
 }

@@ -1,10 +1,7 @@
 // The writer: a call's record, put into a buffer that the caller lends.
 ghost use Rattle.std.specs.Prelude.{◌≡◌, ◌+◌, ◌≤◌, length};
 ghost use Rattle.prelude.specs.Parts.{put_at};
-ghost use Rattle.journal.specs.Numbers.{all_big_endian};
-ghost use Rattle.journal.specs.Layout.{form_of, names_of, numbers_of};
 ghost use Rattle.journal.specs.Journal.{tail_of, body_of, record_of, long_buffer, write_of, buffer_by};
-ghost use Rattle.journal.specs.Arguments.{numbers_on, names_on};
 
 use crate::layout::Lent;
 use crate::{MAX_SIZE, NAME_BYTES, NUMBER_BYTES, SIZE_BYTES, layout, numbers};
@@ -12,57 +9,37 @@ use calls::Call;
 use idmap::TWO_TO_32;
 use tables::answer::Errno;
 
-// The bytes of the record that was written, or why none was.
+// What is lent beside a call: a text, a list, and how long a read's buffer is.
 #[derive(Clone, Copy)]
-pub enum Written {
-    Length(usize),
-    Refused(Errno),
-}
-
-fn name_count(c: Call) -> usize
-    ensures { result ≡ (form_of c).names }
-{
-    let f = layout::form_of(c);
-    f.names
-}
-
-fn number_count(c: Call) -> usize
-    ensures { result ≡ (form_of c).numbers }
-{
-    let f = layout::form_of(c);
-    f.numbers
-}
-
-fn lent_of(c: Call) -> Lent
-    ensures { result ≡ (form_of c).lent }
-{
-    let f = layout::form_of(c);
-    f.lent
+pub struct Beside<'a> {
+    pub text: &'a [u8],
+    pub list: &'a [u32],
+    pub buffer_length: u64,
 }
 
 // The bytes of what runs to a record's end.
-fn tail_bytes(lent: Lent, text: &[u8], list: &[u32]) -> usize
-    ensures { result ≡ length (tail_of lent text.now list.now) }
+#[tactic(auto, using(crate::proofs::BigEndian::length_all))]
+fn tail_bytes(lent: Lent, beside: &Beside) -> usize
+    ensures { result ≡ length (tail_of lent beside.now.text.now beside.now.list.now) }
 {
     match lent {
-        Lent::Nothing => 0,
-        Lent::Text => text.len(),
-        Lent::Groups => list.len() * NUMBER_BYTES,
-        Lent::Buffer => 0,
+        Lent::Nothing | Lent::Buffer => 0,
+        Lent::Text => beside.text.len(),
+        Lent::Groups => beside.list.len() * NUMBER_BYTES,
     }
 }
 
-fn put_tail(buffer: &mut [u8], at: usize, lent: Lent, text: &[u8], list: &[u32])
-    requires { at + length (tail_of lent text.now list.now) ≤ length buffer.old }
-    ensures { buffer.new ≡ put_at buffer.old at (tail_of lent text.now list.now) }
+#[tactic(auto, using(crate::proofs::Puts::put_nothing))]
+fn put_tail(buffer: &mut [u8], at: usize, lent: Lent, beside: &Beside)
+    requires { at + length (tail_of lent beside.now.text.now beside.now.list.now) ≤ length buffer.old }
+    ensures { buffer.new ≡ put_at buffer.old at (tail_of lent beside.now.text.now beside.now.list.now) }
 {
     match lent {
-        Lent::Nothing => {}
+        Lent::Nothing | Lent::Buffer => {}
         Lent::Text => {
-            idmap::show::put_text(buffer, at, text);
+            idmap::show::put_text(buffer, at, beside.text);
         }
-        Lent::Groups => numbers::put_list(buffer, at, list),
-        Lent::Buffer => {}
+        Lent::Groups => numbers::put_numbers(buffer, at, NUMBER_BYTES, beside.list),
     }
 }
 
@@ -70,130 +47,54 @@ fn put_tail(buffer: &mut [u8], at: usize, lent: Lent, text: &[u8], list: &[u32])
 fn long_buffer(lent: Lent, buffer_length: u64) -> bool
     ensures { result ≡ long_buffer buffer_length lent }
 {
-    match lent {
-        Lent::Nothing => false,
-        Lent::Text => false,
-        Lent::Groups => false,
-        Lent::Buffer => buffer_length >= TWO_TO_32,
-    }
-}
-
-// Stores a call's names, and answers where they end.
-fn put_names(buffer: &mut [u8], at: usize, c: Call) -> usize
-    requires { at + length (all_big_endian 8 (names_of c)) ≤ length buffer.old }
-    ensures place { result ≡ at + length (all_big_endian 8 (names_of c)) }
-    ensures bytes { buffer.new ≡ put_at buffer.old at (all_big_endian 8 (names_of c)) }
-{
-    let count = name_count(c);
-    let names = layout::names_of(c);
-    numbers::put_numbers(buffer, at, NAME_BYTES, &names[..count]);
-    at + count * NAME_BYTES
-}
-
-// Stores a call's other numbers, and answers where they end.
-fn put_numbers(buffer: &mut [u8], at: usize, c: Call, buffer_length: u64) -> usize
-    requires { at + length (all_big_endian 4 (numbers_of c buffer_length)) ≤ length buffer.old }
-    ensures place { result ≡ at + length (all_big_endian 4 (numbers_of c buffer_length)) }
-    ensures bytes { buffer.new ≡ put_at buffer.old at (all_big_endian 4 (numbers_of c buffer_length)) }
-{
-    let count = number_count(c);
-    let numbers = layout::numbers_of(c, buffer_length);
-    numbers::put_numbers(buffer, at, NUMBER_BYTES, &numbers[..count]);
-    at + count * NUMBER_BYTES
-}
-
-// Stores a call's numbers, and behind them what runs to the record's end.
-fn put_numbers_on(
-    buffer: &mut [u8],
-    at: usize,
-    c: Call,
-    text: &[u8],
-    list: &[u32],
-    buffer_length: u64,
-)
-    requires { at + length (numbers_on c text.now list.now buffer_length) ≤ length buffer.old }
-    ensures { buffer.new ≡ put_at buffer.old at (numbers_on c text.now list.now buffer_length) }
-{
-    let lent = lent_of(c);
-    let end = put_numbers(buffer, at, c, buffer_length);
-    put_tail(buffer, end, lent, text, list);
-}
-
-// Stores what a record has after its call byte.
-fn put_names_on(
-    buffer: &mut [u8],
-    at: usize,
-    c: Call,
-    text: &[u8],
-    list: &[u32],
-    buffer_length: u64,
-)
-    requires { at + length (names_on c text.now list.now buffer_length) ≤ length buffer.old }
-    ensures { buffer.new ≡ put_at buffer.old at (names_on c text.now list.now buffer_length) }
-{
-    let end = put_names(buffer, at, c);
-    put_numbers_on(buffer, end, c, text, list, buffer_length);
-}
-
-// Stores what a record has after its length.
-fn put_body(buffer: &mut [u8], at: usize, c: Call, text: &[u8], list: &[u32], buffer_length: u64)
-    requires { at + length (body_of c text.now list.now buffer_length) ≤ length buffer.old }
-    ensures { buffer.new ≡ put_at buffer.old at (body_of c text.now list.now buffer_length) }
-{
-    buffer[at] = layout::byte_of(c);
-    put_names_on(buffer, at + 1, c, text, list, buffer_length);
+    matches!(lent, Lent::Buffer) && buffer_length >= TWO_TO_32
 }
 
 // Stores a record, whose length is `size`.
-fn put_record(
-    buffer: &mut [u8],
-    at: usize,
-    size: usize,
-    c: Call,
-    text: &[u8],
-    list: &[u32],
-    buffer_length: u64,
-)
-    requires { (size ≡ length (body_of c text.now list.now buffer_length)) × (at + 2 + size ≤ length buffer.old) }
-    ensures { buffer.new ≡ put_at buffer.old at (record_of c text.now list.now buffer_length) }
+#[tactic(auto, using(crate::proofs::Layouts::few_names, crate::proofs::Layouts::few_numbers, crate::proofs::Writes::body_size, crate::proofs::Writes::taken_long))]
+fn put_record(buffer: &mut [u8], at: usize, size: usize, c: Call, beside: &Beside)
+    requires size { size ≡ length (body_of c beside.now.text.now beside.now.list.now beside.now.buffer_length) }
+    requires room { at + 2 + size ≤ length buffer.old }
+    ensures { buffer.new ≡ put_at buffer.old at (record_of c beside.now.text.now beside.now.list.now beside.now.buffer_length) }
 {
+    let form = layout::form_of(c);
+    let names = layout::names_of(c);
+    let numbers = layout::numbers_of(c, beside.buffer_length);
+    let byte = at + SIZE_BYTES;
+    let first_name = byte + 1;
+    let first_number = first_name + form.names * NAME_BYTES;
+    let tail = first_number + form.numbers * NUMBER_BYTES;
     numbers::put_number(buffer, at, SIZE_BYTES, size as u64);
-    put_body(buffer, at + SIZE_BYTES, c, text, list, buffer_length);
+    buffer[byte] = layout::byte_of(c);
+    numbers::put_numbers(buffer, first_name, NAME_BYTES, &names[..form.names]);
+    numbers::put_numbers(buffer, first_number, NUMBER_BYTES, &numbers[..form.numbers]);
+    put_tail(buffer, tail, form.lent, beside);
 }
 
-// Writes the record of a call, with the text, the list and the length of the buffer that are lent beside it, into a
-// buffer from a place on, and answers how many bytes it has. Ruled out, for instance: a record's first bytes where the
-// whole does not fit; a length that is cut off at two bytes.
-pub fn write_record(
-    c: Call,
-    text: &[u8],
-    list: &[u32],
-    buffer_length: u64,
-    buffer: &mut [u8],
-    at: usize,
-) -> Written
-    ensures answer { result ≡ write_of c text.now list.now buffer_length buffer.old at }
-    ensures bytes { buffer.new ≡ buffer_by c text.now list.now buffer_length (write_of c text.now list.now buffer_length buffer.old at) buffer.old at }
+// Writes the record of a call, with what is lent beside it, into a buffer from a place on, and answers how many bytes it
+// has, or why none was written. Ruled out, for instance: a record's first bytes where the whole does not fit; a length
+// that is cut off at two bytes.
+#[tactic(auto, using(std::proofs::lemmas::Bool::Decides::nat_tests, crate::proofs::Layouts::few_names, crate::proofs::Layouts::few_numbers, crate::proofs::Writes::body_size, crate::proofs::Writes::record_size), unfolding(crate::specs::Journal::write_of))]
+pub fn write_record(c: Call, beside: &Beside, buffer: &mut [u8], at: usize) -> Result<usize, Errno>
+    ensures answer { result ≡ write_of c beside.now.text.now beside.now.list.now beside.now.buffer_length buffer.old at }
+    ensures bytes { buffer.new ≡ buffer_by c beside.now.text.now beside.now.list.now beside.now.buffer_length (write_of c beside.now.text.now beside.now.list.now beside.now.buffer_length buffer.old at) buffer.old at }
 {
-    let lent = lent_of(c);
-    let tail = tail_bytes(lent, text, list);
+    let lent = layout::form_of(c).lent;
+    let tail = tail_bytes(lent, beside);
     let fixed = layout::fixed_bytes(c);
     // A length has two bytes.
     if tail > MAX_SIZE - fixed {
-        return Written::Refused(Errno::EINVAL);
+        return Err(Errno::EINVAL);
     }
     // A buffer's length has four.
-    if long_buffer(lent, buffer_length) {
-        return Written::Refused(Errno::EINVAL);
+    if long_buffer(lent, beside.buffer_length) {
+        return Err(Errno::EINVAL);
     }
     let size = fixed + tail;
     // There is room for the record.
-    if buffer.len() < at {
-        return Written::Refused(Errno::ERANGE);
+    if buffer.len() < at || buffer.len() - at < SIZE_BYTES + size {
+        return Err(Errno::ERANGE);
     }
-    if buffer.len() - at < SIZE_BYTES + size {
-        return Written::Refused(Errno::ERANGE);
-    }
-    put_record(buffer, at, size, c, text, list, buffer_length);
-    Written::Length(SIZE_BYTES + size)
+    put_record(buffer, at, size, c, beside);
+    Ok(SIZE_BYTES + size)
 }

@@ -1,6 +1,6 @@
 // A line of a script as a record of a journal.
 use calls::Call;
-use journal::write::{Written, write_record};
+use journal::write;
 use script::lines;
 use script::lines::{Beside, Line, MAX_LIST};
 use tables::answer::Errno;
@@ -21,10 +21,22 @@ pub enum Recorded {
 }
 
 // Writes the record of a call with what is lent beside it.
-fn write(c: Call, text: &[u8], list: &[u32], length: usize, out: &mut [u8], at: usize) -> Recorded {
-    match write_record(c, text, list, length as u64, out, at) {
-        Written::Length(n) => Recorded::Length(n),
-        Written::Refused(e) => Recorded::Stopped(Stop::Refused(e)),
+fn write_call(
+    c: Call,
+    text: &[u8],
+    list: &[u32],
+    length: usize,
+    out: &mut [u8],
+    at: usize,
+) -> Recorded {
+    let lent = write::Beside {
+        text,
+        list,
+        buffer_length: length as u64,
+    };
+    match write::write_record(c, &lent, out, at) {
+        Ok(n) => Recorded::Length(n),
+        Err(e) => Recorded::Stopped(Stop::Refused(e)),
     }
 }
 
@@ -38,7 +50,7 @@ fn record_call(
 ) -> Recorded {
     let text = lines::text_of(scratch, beside);
     let list = lines::list_of(ids, beside);
-    write(c, text, list, beside.length, out, at)
+    write_call(c, text, list, beside.length, out, at)
 }
 
 // Writes the record of a line of `n` bytes from `at` on.

@@ -22,12 +22,8 @@ const MOST_TURNS: u64 = 18446744073709551615;
 // Whether more input can bring more calls.
 fn wants_more(read: Read) -> bool {
     match read {
-        Read::Found(_) => true,
-        Read::End => true,
-        Read::Stopped(_, why) => match why {
-            Stop::Cut => true,
-            _ => false,
-        },
+        Ok(_) => true,
+        Err(s) => matches!(s.why, Stop::Cut),
     }
 }
 

@@ -42,7 +42,7 @@ pub fn replay_whole<W: Write>(
         let made = make(t, journal, at, list, buffer);
         let read = made.read;
         let response = made.response;
-        let Read::Found(record) = read else {
+        let Ok(Some(record)) = read else {
             output::flush(to, out, used)?;
             return Ok(Left { at: at, read: read });
         };
@@ -52,6 +52,6 @@ pub fn replay_whole<W: Write>(
     output::flush(to, out, used)?;
     Ok(Left {
         at: at,
-        read: Read::End,
+        read: Ok(None),
     })
 }

@@ -25,8 +25,8 @@ fn print_stop<W: Write>(to: &mut W, offset: u64, why: Stop, out: &mut [u8]) -> i
 
 // Prints the stop that a journal ends with, if any. Its offset counts the bytes that are dropped from the window.
 pub fn print_end<W: Write>(to: &mut W, read: Read, dropped: u64, out: &mut [u8]) -> io::Result<()> {
-    let Read::Stopped(at, why) = read else {
+    let Err(s) = read else {
         return Ok(());
     };
-    print_stop(to, dropped.wrapping_add(at as u64), why, out)
+    print_stop(to, dropped.wrapping_add(s.at as u64), s.why, out)
 }

@@ -28,7 +28,6 @@ use Rattle.journal.specs.declared.layout.Lent.TheVariants.{Buffer}
 use Rattle.journal.specs.Layout.{form_of}
 use Rattle.journal.specs.declared.read.Record.{Record}
 use Rattle.journal.specs.Reading.{ids_at}
-use Rattle.journal.proofs.Records.{nothing_buffer, text_buffer, groups_buffer}
 use Rattle.replay_step.specs.Replay.{max_read, replay_of, FewLines, SameAnswer}
 
 -- ---- the texts of reads are short
@@ -164,18 +163,18 @@ module _ (s : State) (l : List ℕ) (few : FewLines s) (buffer : List ℕ) (full
 
     same_by : (c : Call) → SameBy c
     unfolding SameBy answer_by form_of Alike
-    same_by (Fork c) = (refl, refl, λ q. absurd (nothing_buffer q))
-    same_by (Clone c) = (refl, refl, λ q. absurd (nothing_buffer q))
-    same_by (Unshare c) = (refl, refl, λ q. absurd (nothing_buffer q))
-    same_by (Setns c n) = (refl, refl, λ q. absurd (nothing_buffer q))
-    same_by (WriteMap k c p) = (refl, refl, λ q. absurd (text_buffer q))
-    same_by (WriteSetgroups c p) = (refl, refl, λ q. absurd (text_buffer q))
-    same_by (SetIds k c i) = (refl, refl, λ q. absurd (nothing_buffer q))
-    same_by (SetGroups c) = (refl, refl, λ q. absurd (groups_buffer q))
-    same_by (Capable c n number) = (refl, refl, λ q. absurd (nothing_buffer q))
-    same_by (Drop c p e) = (refl, refl, λ q. absurd (nothing_buffer q))
-    same_by (OwnIdsOf c) = (refl, refl, λ q. absurd (nothing_buffer q))
-    same_by (Translate k w c n x) = (refl, refl, λ q. absurd (nothing_buffer q))
+    same_by (Fork c) = (refl, refl, λ q. cc)
+    same_by (Clone c) = (refl, refl, λ q. cc)
+    same_by (Unshare c) = (refl, refl, λ q. cc)
+    same_by (Setns c n) = (refl, refl, λ q. cc)
+    same_by (WriteMap k c p) = (refl, refl, λ q. cc)
+    same_by (WriteSetgroups c p) = (refl, refl, λ q. cc)
+    same_by (SetIds k c i) = (refl, refl, λ q. cc)
+    same_by (SetGroups c) = (refl, refl, λ q. cc)
+    same_by (Capable c n number) = (refl, refl, λ q. cc)
+    same_by (Drop c p e) = (refl, refl, λ q. cc)
+    same_by (OwnIdsOf c) = (refl, refl, λ q. cc)
+    same_by (Translate k w c n x) = (refl, refl, λ q. cc)
     same_by (ReadMap k c p) = let h = map_alike k c p in (h.0, refl, λ q. h.1)
     same_by (ReadSetgroups c p) = let h = setting_alike c p in (h.0, refl, λ q. h.1)
 

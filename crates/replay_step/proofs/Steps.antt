@@ -5,9 +5,8 @@ use mathlib.Core.List.{List, ◌++◌}
 use native.Mathlib.Omega.{arith}
 use lib.Dec.{leb}
 use lib.ListN.{length, take, drop, drop_of_length-le}
-use lib.Seq.{length-take-le}
-use borrow.Author.Rules.{rules}
 use borrow.Author.Tests.{leb-true, leb-false}
+use Rattle.std.specs.Prelude.{Some, None, Ok, Err}
 use Rattle.prelude.specs.Parts.{part, put_at}
 use Rattle.prelude.proofs.Tests.{by_test}
 use Rattle.prelude.proofs.Lists.{take_min}
@@ -19,22 +18,14 @@ use Rattle.credentials.specs.Calls.{group_list}
 use Rattle.calls.specs.declared.Response.{Response}
 use Rattle.calls.specs.Calls.{Step, answer_by, call_reply, plain_of, CallPromise}
 use Rattle.journal.specs.Numbers.{number_at}
-use Rattle.journal.specs.declared.read.Stop.{Stop}
+use Rattle.journal.specs.declared.read.Stopped.{Stopped}
 use Rattle.journal.specs.declared.read.Record.{Record}
-use Rattle.journal.specs.declared.read.Read.{Read}
-use Rattle.journal.specs.declared.read.Read.TheVariants.{Found, End, Stopped}
-use Rattle.journal.specs.Reading.{read_at, list_after, ids_at}
+use Rattle.journal.specs.Reading.{Read, read_at, list_after, ids_at}
 use Rattle.journal.proofs.Gets.{length_tab}
 use Rattle.journal.proofs.Inside.{found_inside}
-use Rattle.replay_step.specs.Replay.{behind, made_of, replay_of, Unchanged}
+use Rattle.replay_step.specs.Replay.{behind, made_of, replay_of}
 
--- ---- a prefix that is lent
-pub prefix_long : (n : ℕ) (l : List ℕ) → n ≤ length l → n ≡ length (take n l)
-prefix_long n l h = sym (length-take-le n l h)
-
-pub least_long : (n k : ℕ) (l : List ℕ) → n ≡ min k (length l) → n ≡ length (take n l)
-least_long n k l e = sym (length-take-le n l (omega arith))
-
+-- ---- the buffer behind what is lent of it
 drop_min : (k : ℕ) (l : List ℕ) → drop (min k (length l)) l ≡ drop k l
 drop_min k l =
     by_test (leb k (length l))
@@ -54,11 +45,9 @@ call_made p a a' after l list buffer r s n e h =
     let made = rw (text, front) at h in
     rw rest (record { outcome = ap (λ (o : Step). behind o (drop r.buffer buffer)) made.outcome; whole = made.whole; kept = made.kept })
 
-pub ruleset makes = (prefix_long, least_long, call_made, rules)
-
 -- ---- a record that was found
-module _ (l : List ℕ) (at : ℕ) (read : Read) (e : read ≡ read_at l at) (r : Record) (p : read ≡ Found r) where
-  found_is : read_at l at ≡ Found r
+module _ (l : List ℕ) (at : ℕ) (read : Read) (e : read ≡ read_at l at) (r : Record) (p : read ≡ Ok (Some r)) where
+  found_is : read_at l at ≡ Ok (Some r)
   found_is = sym e ∙ p
 
   pub found_text : r.tail + r.text ≤ length l
@@ -87,33 +76,17 @@ module _ (l : List ℕ) (at : ℕ) (read : Read) (e : read ≡ read_at l at) (r 
     unfolding replay_of
     found_made m a a' after buffer s h = rw (found_is, ← ids_taken) h
 
-  pub found_changed : (a a' : List ℕ) → Unchanged (read_at l at) a a'
-  found_changed a a' = rw found_is Prim.tt
-
 -- ---- no record
 nothing_made : (m : Response) (a buffer : List ℕ) → m ≡ plain_of Done → (step : Step)
     → step ≡ record { reply = call_reply (plain_of Done); tables = tables_of a; buffer = buffer } → CallPromise m a a buffer step
 unfolding group_list
 nothing_made m a buffer e step q = rw (e, q) (record { outcome = refl; whole = refl; kept = λ t. refl })
 
-module _ (l : List ℕ) (at : ℕ) (read : Read) (e : read ≡ read_at l at) where
-  module _ (p : read ≡ End) where
-    pub end_made : (m : Response) (a buffer : List ℕ) → m ≡ plain_of Done → CallPromise m a a buffer (replay_of (tables_of a) l (read_at l at) buffer)
-    unfolding replay_of
-    end_made m a buffer q = nothing_made m a buffer q (replay_of (tables_of a) l (read_at l at) buffer) (rw (← e, p))
+module _ (l : List ℕ) (at : ℕ) (read : Read) (e : read ≡ read_at l at) (m : Response) (a buffer : List ℕ) (q : m ≡ plain_of Done) where
+  pub end_made : read ≡ Ok None → CallPromise m a a buffer (replay_of (tables_of a) l (read_at l at) buffer)
+  unfolding replay_of
+  end_made p = nothing_made m a buffer q (replay_of (tables_of a) l (read_at l at) buffer) (rw (← e, p))
 
-    pub end_unchanged : (a : List ℕ) → Unchanged (read_at l at) a a
-    end_unchanged a = rw (← e, p) refl
-
-  module _ (o : ℕ) (why : Stop) (p : read ≡ Stopped o why) where
-    pub stop_made : (m : Response) (a buffer : List ℕ) → m ≡ plain_of Done → CallPromise m a a buffer (replay_of (tables_of a) l (read_at l at) buffer)
-    unfolding replay_of
-    stop_made m a buffer q = nothing_made m a buffer q (replay_of (tables_of a) l (read_at l at) buffer) (rw (← e, p))
-
-    pub stop_unchanged : (a : List ℕ) → Unchanged (read_at l at) a a
-    stop_unchanged a = rw (← e, p) refl
-
-pub read_is : (l : List ℕ) (at : ℕ) (read : Read) (x : Read) → read ≡ read_at l at → read ≡ x → x ≡ read_at l at
-read_is l at read x e p = sym p ∙ e
-
-pub ruleset steps = (found_both, found_made, found_changed, end_made, end_unchanged, stop_made, stop_unchanged, read_is, rules)
+  pub stop_made : (stop : Stopped) → read ≡ Err stop → CallPromise m a a buffer (replay_of (tables_of a) l (read_at l at) buffer)
+  unfolding replay_of
+  stop_made stop p = nothing_made m a buffer q (replay_of (tables_of a) l (read_at l at) buffer) (rw (← e, p))

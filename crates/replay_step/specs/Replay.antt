@@ -1,5 +1,5 @@
 -- The call of one record: docs/journal.md, 'Reading'. Assumes nothing.
-use Rattle.std.specs.Prelude.{ℕ, ◌+◌, ◌*◌, ◌≤◌, ◌≡◌, List, ◌++◌, length, take, drop}
+use Rattle.std.specs.Prelude.{ℕ, ◌+◌, ◌*◌, ◌≤◌, ◌≡◌, List, ◌++◌, length, take, drop, Some, None, Ok, Err}
 use Rattle.prelude.specs.Parts.{part}
 use Rattle.idmap.specs.Good.{max_lines}
 use Rattle.idmap.specs.Show.{line_bytes}
@@ -10,11 +10,9 @@ use Rattle.tables.specs.Reply.{done, bytes}
 use Rattle.hierarchy.specs.KernelStarts.{quick}
 use Rattle.calls.specs.Calls.{Step, answer_by, answer_of}
 use Rattle.journal.specs.declared.read.Record.{Record}
-use Rattle.journal.specs.declared.read.Read.{Read}
-use Rattle.journal.specs.declared.read.Read.TheVariants.{Found, End, Stopped}
 use Rattle.journal.specs.declared.layout.Lent.TheVariants.{Buffer}
 use Rattle.journal.specs.Layout.{form_of}
-use Rattle.journal.specs.Reading.{ids_at, request_at}
+use Rattle.journal.specs.Reading.{Read, ids_at, request_at}
 
 -- the longest text of a read: the lines of a full map
 abbrev pub max_read : ℕ
@@ -31,15 +29,15 @@ call_of s r l list buffer =
 
 -- with the list that the record has
 unfoldable pub replay_of : State → List ℕ → Read → List ℕ → Step
-replay_of s l (Found r) buffer = call_of s r l (ids_at l r) buffer
-replay_of s l End buffer = record { reply = done; tables = s; buffer = buffer }
-replay_of s l (Stopped at why) buffer = record { reply = done; tables = s; buffer = buffer }
+replay_of s l (Ok (Some r)) buffer = call_of s r l (ids_at l r) buffer
+replay_of s l (Ok None) buffer = record { reply = done; tables = s; buffer = buffer }
+replay_of s l (Err stop) buffer = record { reply = done; tables = s; buffer = buffer }
 
 -- where there is no call, every word of the lent array is as it was
 abbrev pub Unchanged : Read → List ℕ → List ℕ → Type 0
-Unchanged (Found r) entry exit = Unit {0}
-Unchanged End entry exit = exit ≡ entry
-Unchanged (Stopped at why) entry exit = exit ≡ entry
+Unchanged (Ok (Some r)) entry exit = Unit {0}
+Unchanged (Ok None) entry exit = exit ≡ entry
+Unchanged (Err s) entry exit = exit ≡ entry
 
 -- ---- a buffer of the longest text serves for any longer one
 -- no map has more lines than are allowed: so it is after every list of calls
@@ -49,11 +47,11 @@ FewLines s = (k : Kind) (n : ℕ) → length (lines_of (map_in k (namespace_at s
 -- a call is answered as with the whole buffer that its record says: no text is longer than max_read, so it fits the one
 -- exactly where it fits the other. `same_answer` of proofs/Longest.antt proves it of every lent buffer of max_read bytes
 pub record SameAnswer (s : State) (l : List ℕ) (r : Record) (buffer : List ℕ) : Type 0 where
-  pub reply : (replay_of s l (Found r) buffer).reply ≡ (quick answer_of s (request_at l r)).reply
-  pub tables : (replay_of s l (Found r) buffer).tables ≡ (quick answer_of s (request_at l r)).tables
+  pub reply : (replay_of s l (Ok (Some r)) buffer).reply ≡ (quick answer_of s (request_at l r)).reply
+  pub tables : (replay_of s l (Ok (Some r)) buffer).tables ≡ (quick answer_of s (request_at l r)).tables
   -- and the bytes that a read gives are the same
-  pub text : (form_of r.call).lent ≡ Buffer → (n : ℕ) → (replay_of s l (Found r) buffer).reply ≡ bytes n
-      → take n (replay_of s l (Found r) buffer).buffer ≡ take n (quick answer_of s (request_at l r)).buffer
+  pub text : (form_of r.call).lent ≡ Buffer → (n : ℕ) → (replay_of s l (Ok (Some r)) buffer).reply ≡ bytes n
+      → take n (replay_of s l (Ok (Some r)) buffer).buffer ≡ take n (quick answer_of s (request_at l r)).buffer
 
 -- ---- not to be believed, only proved: what the code makes the call with
 abbrev pub Inside : Record → List ℕ → List ℕ → Type 0

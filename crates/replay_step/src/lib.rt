@@ -1,7 +1,7 @@
 // Makes the call of one record of a journal, so that a loop over it makes all of them.
 #![tactic(auto)]
 
-ghost use Rattle.std.specs.Prelude.{◌≡◌, ◌+◌, ◌≤◌, min, length};
+ghost use Rattle.std.specs.Prelude.{◌≡◌, ◌+◌, ◌≤◌, length};
 ghost use Rattle.tables.specs.Tables.{tables_of};
 ghost use Rattle.tables.specs.declared.answer.Answer.TheVariants.{Done};
 ghost use Rattle.calls.specs.Calls.{plain_of, CallPromise};
@@ -27,30 +27,19 @@ pub struct Replayed {
     pub response: Response,
 }
 
-fn least(a: usize, b: usize) -> usize
-    ensures { result ≡ min a b }
-{
-    if a < b { a } else { b }
-}
-
 // Makes the call of a record. The text is a part of the journal, and the buffer of a read is as much of the lent one as
 // it is long.
 fn make(t: &mut Tables, r: Record, journal: &[u8], list: &[u32], buffer: &mut [u8]) -> Response
     requires { Inside r journal.now list.now }
     ensures { CallPromise result t.old t.new buffer.new (made_of (tables_of t.old) r journal.now list.now buffer.old) }
 {
-    let call = r.call;
-    let tail = r.tail;
-    let text = r.text;
-    let end = tail + text;
-    let ids = r.ids;
-    let wanted = r.buffer as usize;
-    let length = least(wanted, buffer.len());
+    let end = r.tail + r.text;
+    let length = (r.buffer as usize).min(buffer.len());
     calls::answer(
         t,
-        call,
-        &journal[tail..end],
-        &list[..ids],
+        r.call,
+        &journal[r.tail..end],
+        &list[..r.ids],
         &mut buffer[..length],
     )
 }
@@ -83,15 +72,11 @@ pub fn step(
 {
     let read = journal::read::read_record(journal, at, list);
     match read {
-        Read::Found(r) => Replayed {
+        Ok(Some(r)) => Replayed {
             read: read,
             response: make(t, r, journal, list, buffer),
         },
-        Read::End => Replayed {
-            read: read,
-            response: nothing(),
-        },
-        Read::Stopped(_, _) => Replayed {
+        _ => Replayed {
             read: read,
             response: nothing(),
         },
