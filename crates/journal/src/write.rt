@@ -37,7 +37,7 @@ fn put_tail(buffer: &mut [u8], at: usize, lent: Lent, beside: &Beside)
     match lent {
         Lent::Nothing | Lent::Buffer => {}
         Lent::Text => {
-            idmap::show::put_text(buffer, at, beside.text);
+            rows::put(buffer, at, beside.text);
         }
         Lent::Groups => numbers::put_numbers(buffer, at, NUMBER_BYTES, beside.list),
     }

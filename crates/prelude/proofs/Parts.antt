@@ -159,3 +159,19 @@ module _ {A : Type 0} (l : List A) (at : ℕ) (vs : List A) where
       put_mid-paste at (at + length vs - at) l new vs (length vs) e (omega arith) refl
       ∙ ap (λ (r : List A). take at l ++ r ++ drop (at + length vs) l) (take-length vs)
       ∙ sym (put_inside l at vs fits)
+
+-- A loop that stores value by value.
+module _ (l : List ℕ) (at : ℕ) (vs : List ℕ) where
+  -- one more element is in place
+  pub put_step : (t : List ℕ) (i : ℕ) → at + length vs ≤ length l → i < length vs → t ≡ paste l at vs i
+      → set t (at + i) (get_or vs i 0) ≡ paste l at vs (i + 1)
+  put_step t i fits h e = rw (e, add-one) (paste-suc l at vs i 0 (omega arith) h)
+
+  -- all of them are in place
+  pub put_all : (t : List ℕ) (i : ℕ) → at + length vs ≤ length l → i ≤ length vs → length vs ≤ i → t ≡ paste l at vs i → t ≡ put_at l at vs
+  put_all t i fits h k e =
+      let q : i ≡ length vs = omega arith in
+      e
+      ∙ ap (λ (k : ℕ). paste l at vs k) q
+      ∙ ap (λ (r : List ℕ). take at l ++ r ++ drop (at + length vs) l) (take-length vs)
+      ∙ sym (put_inside l at vs fits)

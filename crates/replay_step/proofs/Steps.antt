@@ -6,7 +6,7 @@ use native.Mathlib.Omega.{arith}
 use lib.Dec.{leb}
 use lib.ListN.{length, take, drop, drop_of_length-le}
 use borrow.Author.Tests.{leb-true, leb-false}
-use Rattle.std.specs.Prelude.{Some, None, Ok, Err}
+use Rattle.std.specs.Prelude.{Some, None, Result, Ok, Err}
 use Rattle.prelude.specs.Parts.{part, put_at}
 use Rattle.prelude.proofs.Tests.{by_test}
 use Rattle.prelude.proofs.Lists.{take_min}
@@ -15,7 +15,10 @@ use Rattle.tables.specs.Tables.{State, tables_of}
 use Rattle.tables.specs.declared.answer.Answer.TheVariants.{Done}
 use Rattle.hierarchy.specs.KernelStarts.{quick}
 use Rattle.credentials.specs.Calls.{group_list}
+use Rattle.tables.specs.declared.answer.Errno.{Errno}
+use Rattle.tables.specs.Reply.{done}
 use Rattle.calls.specs.declared.Response.{Response}
+use Rattle.calls.specs.declared.Response.TheVariants.{Plain}
 use Rattle.calls.specs.Calls.{Step, answer_by, call_reply, plain_of, CallPromise}
 use Rattle.journal.specs.Numbers.{number_at}
 use Rattle.journal.specs.declared.read.Stopped.{Stopped}
@@ -35,7 +38,7 @@ drop_min k l =
     drop_of_length-le l {i = min k (length l)} (omega arith) ∙ sym (drop_of_length-le l {i = k} (omega arith)))
 
 -- ---- the call of a record
-pub call_made : (p : Response) (a a' after l list buffer : List ℕ) (r : Record) (s : State) (n : ℕ) → n ≡ min r.buffer (length buffer)
+pub call_made : (p : Result Response Errno) (a a' after l list buffer : List ℕ) (r : Record) (s : State) (n : ℕ) → n ≡ min r.buffer (length buffer)
     → CallPromise p a a' after (quick answer_by s r.call (take (r.tail + r.text - r.tail) (drop r.tail l)) (take r.ids list) (take n buffer))
     → CallPromise p a a' (after ++ drop n buffer) (made_of s r l list buffer)
 call_made p a a' after l list buffer r s n e h =
@@ -71,22 +74,21 @@ module _ (l : List ℕ) (at : ℕ) (read : Read) (e : read ≡ read_at l at) (r 
         let kept : length list ≡ 16381 = sym (ap length put ∙ length_put list 0 (ids_at l r)) ∙ full in
         rw put (rw long at (part_put_same list 0 (ids_at l r) (omega arith)))
 
-    pub found_made : (m : Response) (a a' after buffer : List ℕ) (s : State) → CallPromise m a a' after (made_of s r l list' buffer)
+    pub found_made : (m : Result Response Errno) (a a' after buffer : List ℕ) (s : State) → CallPromise m a a' after (made_of s r l list' buffer)
         → CallPromise m a a' after (replay_of s l (read_at l at) buffer)
     unfolding replay_of
     found_made m a a' after buffer s h = rw (found_is, ← ids_taken) h
 
 -- ---- no record
-nothing_made : (m : Response) (a buffer : List ℕ) → m ≡ plain_of Done → (step : Step)
-    → step ≡ record { reply = call_reply (plain_of Done); tables = tables_of a; buffer = buffer } → CallPromise m a a buffer step
+nothing_made : (a buffer : List ℕ) (step : Step) → step ≡ record { reply = done; tables = tables_of a; buffer = buffer } → CallPromise (Ok (Plain Done)) a a buffer step
 unfolding group_list
-nothing_made m a buffer e step q = rw (e, q) (record { outcome = refl; whole = refl; kept = λ t. refl })
+nothing_made a buffer step q = rw q (record { outcome = refl; whole = refl; kept = λ t. refl })
 
-module _ (l : List ℕ) (at : ℕ) (read : Read) (e : read ≡ read_at l at) (m : Response) (a buffer : List ℕ) (q : m ≡ plain_of Done) where
-  pub end_made : read ≡ Ok None → CallPromise m a a buffer (replay_of (tables_of a) l (read_at l at) buffer)
+module _ (l : List ℕ) (at : ℕ) (a buffer : List ℕ) where
+  pub end_made : read_at l at ≡ Ok None → CallPromise (Ok (Plain Done)) a a buffer (replay_of (tables_of a) l (read_at l at) buffer)
   unfolding replay_of
-  end_made p = nothing_made m a buffer q (replay_of (tables_of a) l (read_at l at) buffer) (rw (← e, p))
+  end_made p = nothing_made a buffer (replay_of (tables_of a) l (read_at l at) buffer) (rw p)
 
-  pub stop_made : (stop : Stopped) → read ≡ Err stop → CallPromise m a a buffer (replay_of (tables_of a) l (read_at l at) buffer)
+  pub stop_made : (stop : Stopped) → read_at l at ≡ Err stop → CallPromise (Ok (Plain Done)) a a buffer (replay_of (tables_of a) l (read_at l at) buffer)
   unfolding replay_of
-  stop_made stop p = nothing_made m a buffer q (replay_of (tables_of a) l (read_at l at) buffer) (rw (← e, p))
+  stop_made stop p = nothing_made a buffer (replay_of (tables_of a) l (read_at l at) buffer) (rw p)

@@ -1,5 +1,5 @@
 -- The call of one record: docs/journal.md, 'Reading'. Assumes nothing.
-use Rattle.std.specs.Prelude.{ℕ, ◌+◌, ◌*◌, ◌≤◌, ◌≡◌, List, ◌++◌, length, take, drop, Some, None, Ok, Err}
+use Rattle.std.specs.Prelude.{ℕ, ◌+◌, ◌*◌, ◌≤◌, ◌≡◌, List, ◌++◌, length, take, drop, Some, None, Ok, Err, Option, Result}
 use Rattle.prelude.specs.Parts.{part}
 use Rattle.idmap.specs.Good.{max_lines}
 use Rattle.idmap.specs.Show.{line_bytes}
@@ -9,7 +9,13 @@ use Rattle.tables.specs.Tables.{State, namespace_at}
 use Rattle.tables.specs.Reply.{done, bytes}
 use Rattle.hierarchy.specs.KernelStarts.{quick}
 use Rattle.calls.specs.Calls.{Step, answer_by, answer_of}
+use Rattle.tables.specs.declared.answer.Errno.{Errno}
+use Rattle.tables.specs.declared.answer.Answer.TheVariants.{Done}
+use Rattle.calls.specs.declared.Response.{Response}
+use Rattle.calls.specs.declared.Response.TheVariants.{Plain}
 use Rattle.journal.specs.declared.read.Record.{Record}
+use Rattle.journal.specs.declared.read.Stopped.{Stopped}
+use Rattle.replay_step.specs.declared.Replayed.{Replayed}
 use Rattle.journal.specs.declared.layout.Lent.TheVariants.{Buffer}
 use Rattle.journal.specs.Layout.{form_of}
 use Rattle.journal.specs.Reading.{Read, ids_at, request_at}
@@ -32,6 +38,17 @@ unfoldable pub replay_of : State → List ℕ → Read → List ℕ → Step
 replay_of s l (Ok (Some r)) buffer = call_of s r l (ids_at l r) buffer
 replay_of s l (Ok None) buffer = record { reply = done; tables = s; buffer = buffer }
 replay_of s l (Err stop) buffer = record { reply = done; tables = s; buffer = buffer }
+
+-- ---- what the step tells: what stands at the offset, and what its call was answered, which is `done` where there is none
+abbrev pub read_in : Result (Option Replayed) Stopped → Read
+read_in (Ok (Some x)) = Ok (Some x.record)
+read_in (Ok None) = Ok None
+read_in (Err stop) = Err stop
+
+abbrev pub answer_in : Result (Option Replayed) Stopped → Result Response Errno
+answer_in (Ok (Some x)) = x.answer
+answer_in (Ok None) = Ok (Plain Done)
+answer_in (Err stop) = Ok (Plain Done)
 
 -- where there is no call, every word of the lent array is as it was
 abbrev pub Unchanged : Read → List ℕ → List ℕ → Type 0

@@ -3,33 +3,37 @@
 
 ghost use Rattle.std.specs.Prelude.{◌≡◌, ◌+◌, ◌≤◌, length};
 ghost use Rattle.tables.specs.Tables.{tables_of};
-ghost use Rattle.tables.specs.declared.answer.Answer.TheVariants.{Done};
-ghost use Rattle.calls.specs.Calls.{plain_of, CallPromise};
+ghost use Rattle.calls.specs.Calls.{CallPromise};
 ghost use Rattle.journal.specs.Reading.{read_at, list_after};
-ghost use Rattle.replay_step.specs.Replay.{made_of, replay_of, Inside, Unchanged};
+ghost use Rattle.replay_step.specs.Replay.{read_in, answer_in, made_of, replay_of, Inside, Unchanged};
 
-use calls::{CallAnswer, Response};
-use credentials::own::NO_OWN_IDS;
+use calls::Response;
 use idmap::MAX_LINES;
 use idmap::show::LINE_BYTES;
 use journal::MAX_IDS;
-use journal::read::{Read, Record};
+use journal::read::{Record, Stopped, read_record};
 use tables::Tables;
-use tables::answer::Answer;
+use tables::answer::Errno;
 
 // The bytes of the longest text that a read gives: the lines of a full map.
 pub const MAX_READ: usize = MAX_LINES * LINE_BYTES;
 
-// What stands at an offset, and what the call that stands there was answered; "done" where there is none.
+// A record that stands at an offset, and what its call was answered.
 #[derive(Clone, Copy)]
 pub struct Replayed {
-    pub read: Read,
-    pub response: Response,
+    pub record: Record,
+    pub answer: Result<Response, Errno>,
 }
 
 // Makes the call of a record. The text is a part of the journal, and the buffer of a read is as much of the lent one as
 // it is long.
-fn make(t: &mut Tables, r: Record, journal: &[u8], list: &[u32], buffer: &mut [u8]) -> Response
+fn make(
+    t: &mut Tables,
+    r: Record,
+    journal: &[u8],
+    list: &[u32],
+    buffer: &mut [u8],
+) -> Result<Response, Errno>
     requires { Inside r journal.now list.now }
     ensures { CallPromise result t.old t.new buffer.new (made_of (tables_of t.old) r journal.now list.now buffer.old) }
 {
@@ -44,17 +48,6 @@ fn make(t: &mut Tables, r: Record, journal: &[u8], list: &[u32], buffer: &mut [u
     )
 }
 
-// Where there is no call, nothing is changed.
-fn nothing() -> Response
-    ensures { result ≡ plain_of Done }
-{
-    let none = NO_OWN_IDS;
-    Response {
-        answer: CallAnswer::Plain(Answer::Done),
-        ids: none,
-    }
-}
-
 // Reads the record at an offset of a journal and makes its call. At 0 the version byte is read, and the record after
 // it. The list of the call is put into the lent array, and the text of a read into the lent buffer. Ruled out, for
 // instance: a call of a record that is bad; the answer of another record than the one at the offset.
@@ -64,21 +57,15 @@ pub fn step(
     at: usize,
     list: &mut [u32; MAX_IDS],
     buffer: &mut [u8; MAX_READ],
-) -> Replayed
-    ensures read { result.read ≡ read_at journal.now at }
+) -> Result<Option<Replayed>, Stopped>
+    ensures read { read_in result ≡ read_at journal.now at }
     ensures ids { list.new ≡ list_after journal.now (read_at journal.now at) list.old }
-    ensures made { CallPromise result.response t.old t.new buffer.new (replay_of (tables_of t.old) journal.now (read_at journal.now at) buffer.old) }
+    ensures made { CallPromise (answer_in result) t.old t.new buffer.new (replay_of (tables_of t.old) journal.now (read_at journal.now at) buffer.old) }
     ensures unchanged { Unchanged (read_at journal.now at) t.old t.new }
 {
-    let read = journal::read::read_record(journal, at, list);
-    match read {
-        Ok(Some(r)) => Replayed {
-            read: read,
-            response: make(t, r, journal, list, buffer),
-        },
-        _ => Replayed {
-            read: read,
-            response: nothing(),
-        },
-    }
+    let Some(record) = read_record(journal, at, list)? else {
+        return Ok(None);
+    };
+    let answer = make(t, record, journal, list, buffer);
+    Ok(Some(Replayed { record, answer }))
 }

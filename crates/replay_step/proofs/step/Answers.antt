@@ -1,26 +1,23 @@
 -- `replay_step::step` meets its contract. Assumes nothing.
-use mathlib.Core.Path.{◌≡◌}
-use Rattle.std.proofs.Common.{rules}
-use Rattle.std.specs.Prelude.{Some, Ok}
+use Rattle.std.proofs.Common.{◌≡◌, Some, None, Ok, Err, ◌∙◌, sym, ap, rules}
 use Rattle.replay_step.proofs.Steps.{found_both, found_made, end_made, stop_made}
 use Rattle.replay_step.proofs.step.Goals as goal
-use Rattle.replay_step.proofs.step.Goals.{in_default-via-in-Ok+in_default, in_default-via-in_default}
 
-pub make-requires : goal.make-requires
-make-requires c =
-    let found : c.read_record-read.result ≡ Ok (Some c.in-Ok-Some.r) = search rules in
-    found_both c.args.journal.now c.args.at _ c.read_record-read.ensures.answer c.in-Ok-Some.r found _ (search rules)
-
-pub returns-in-Ok-Some-clause-made : goal.returns-in-Ok-Some-clause-made
-returns-in-Ok-Some-clause-made c =
-    let found : c.read_record-read.result ≡ Ok (Some c.in-Ok-Some.r) = search rules in
-    found_made c.args.journal.now c.args.at _ c.read_record-read.ensures.answer _ found _ _ (search rules)
-    c.read_record-read.ensures.ids _ _ _ _ _ _ c.make.ensures
+pub returns-in_err-record-clause-made : goal.returns-in_err-record-clause-made
+returns-in_err-record-clause-made c =
+    let e : c.from_residual.result ≡ Err c.in_err-record.field-0.0 = search rules in
+    rw e (stop_made _ _ _ _ c.in_err-record.field-0.0 (sym c.read_record.ensures.answer ∙ c.in_err-record.was))
 
 pub returns-in_default-clause-made : goal.returns-in_default-clause-made
 returns-in_default-clause-made c =
-    let read = c.read_record-read.ensures.answer in
-    elim c.in_default.branch [
-      | in_default-via-in-Ok+in_default w ↦ end_made c.args.journal.now c.args.at _ read _ _ _ c.nothing.ensures (search rules)
-      | in_default-via-in_default w ↦ stop_made c.args.journal.now c.args.at _ read _ _ _ c.nothing.ensures w.in_default.field-0 w.in_default.is
-    ]
+    let none : c.in_ok-record.field-0 ≡ None = search rules in
+    end_made _ _ _ _ (sym c.read_record.ensures.answer ∙ c.in_ok-record.was ∙ ap Ok none)
+
+pub make-answer-requires : goal.make-answer-requires
+make-answer-requires c =
+    found_both _ _ _ c.read_record.ensures.answer c.in-Some.record (c.in_ok-record.was ∙ ap Ok c.in-Some.is) _ (search rules)
+
+pub returns-clause-made : goal.returns-clause-made
+returns-clause-made c =
+    found_made _ _ _ c.read_record.ensures.answer c.in-Some.record (c.in_ok-record.was ∙ ap Ok c.in-Some.is) _ _ (search rules)
+    c.read_record.ensures.ids _ _ _ _ _ _ c.make-answer.ensures
