@@ -1,5 +1,5 @@
 -- Answers as numbers, for programs in other languages. Assumes nothing.
-use Rattle.std.specs.Prelude.{ℕ, ◌+◌, ◌-◌, ◌^◌, ◌≡◌, true, List, ◌∷◌, length, get_or}
+use Rattle.std.specs.Prelude.{ℕ, ◌+◌, ◌-◌, ◌^◌, ◌≡◌, true, List, ◌∷◌, length, get_or, Result, Ok, Err}
 use Rattle.prelude.specs.Parts.{put_at}
 use Rattle.prelude.specs.Lists.{tab}
 use Rattle.idmap.specs.Good.{no_id}
@@ -8,9 +8,7 @@ use Rattle.tables.specs.Tables.{tables_of}
 use Rattle.tables.specs.Reply.{Reply, refused, done, child, child_in, new_namespace, yes', no', bytes, id, unmapped, ids, number_of, Outcome, is_refused}
 use Rattle.mapping.specs.Calls.{ReadOutcome}
 use Rattle.credentials.specs.declared.own.OwnIds.{OwnIds}
-use Rattle.credentials.specs.declared.own.OwnAnswer.{OwnAnswer}
-use Rattle.credentials.specs.declared.own.OwnAnswer.TheVariants.{Told, NotTold}
-use Rattle.credentials.specs.declared.own.OwnResult.{OwnResult}
+use Rattle.tables.specs.declared.answer.Errno.{Errno}
 
 -- a refusal's number, negated, as a signed 64-bit number has it
 abbrev pub negated : ℕ → ℕ
@@ -72,15 +70,15 @@ abbrev pub own_width : ℕ
 own_width = own_threes + max_groups
 
 -- the number of groups or the refusal, and the words, which a refusal leaves
-abbrev pub own_code : OwnAnswer → OwnIds → ℕ
-own_code Told o = o.supplementary.count
-own_code (NotTold e) o = negated (number_of e)
+abbrev pub own_code : Result OwnIds Errno → ℕ
+own_code (Ok o) = o.supplementary.count
+own_code (Err e) = negated (number_of e)
 
-abbrev pub own_words : OwnAnswer → OwnIds → List ℕ → List ℕ
-own_words Told o words = put_at words 0 (ids_row o)
-own_words (NotTold e) o words = words
+abbrev pub own_words : Result OwnIds Errno → List ℕ → List ℕ
+own_words (Ok o) words = put_at words 0 (ids_row o)
+own_words (Err e) words = words
 
 -- what the exported own-ID question promises
-pub record CodedIds (code : ℕ) (entry exit : List ℕ) (own : OwnResult) : Type 0 where
-  pub answer : code ≡ own_code own.answer own.ids
-  pub words : exit ≡ own_words own.answer own.ids entry
+pub record CodedIds (code : ℕ) (entry exit : List ℕ) (own : Result OwnIds Errno) : Type 0 where
+  pub answer : code ≡ own_code own
+  pub words : exit ≡ own_words own entry

@@ -1,12 +1,13 @@
 -- What stands at an offset of a journal, and what its call comes to, as numbers. Assumes nothing.
-use Rattle.std.specs.Prelude.{ℕ, ◌≡◌, true, List, [], ◌∷◌, ◌++◌, get_or, Some, None, Ok, Err}
+use Rattle.std.specs.Prelude.{ℕ, ◌≡◌, true, List, [], ◌∷◌, ◌++◌, get_or, Some, None, Ok, Err, Result}
 use Rattle.prelude.specs.Parts.{put_at}
 use Rattle.prelude.specs.Lists.{tab}
 use Rattle.tables.specs.Tables.{tables_of}
-use Rattle.tables.specs.Reply.{Reply, refused, done, child, child_in, new_namespace, yes', no', bytes, id, unmapped, ids, reply_of, is_refused}
+use Rattle.tables.specs.Reply.{Reply, refused, done, child, child_in, new_namespace, yes', no', bytes, id, unmapped, ids, number_of, answered, is_refused}
 use Rattle.credentials.specs.declared.own.OwnIds.{OwnIds}
-use Rattle.calls.specs.declared.CallAnswer.{CallAnswer}
-use Rattle.calls.specs.declared.CallAnswer.TheVariants.{Plain, Own}
+use Rattle.tables.specs.declared.answer.Errno.{Errno}
+use Rattle.calls.specs.declared.Response.{Response}
+use Rattle.calls.specs.declared.Response.TheVariants.{Plain, Own}
 use Rattle.calls.specs.Calls.{Step}
 use Rattle.journal.specs.declared.read.Stop.{Stop}
 use Rattle.journal.specs.declared.read.Stop.TheVariants.{Version, Cut, Short, UnknownCall, Leftover}
@@ -14,7 +15,7 @@ use Rattle.journal.specs.declared.read.Record.{Record}
 use Rattle.journal.specs.Layout.{byte_of, names_of, numbers_of, first_three}
 use Rattle.journal.specs.Reading.{Read, read_at}
 use Rattle.replay_step.specs.Replay.{replay_of}
-use Rattle.exports.specs.Codes.{code_of, ids_row, own_width}
+use Rattle.exports.specs.Codes.{negated, code_of, ids_row, own_width}
 
 -- ---- what stands at an offset, in twelve words
 -- why the reading stops
@@ -71,10 +72,12 @@ ids_after (id x) words = words
 ids_after unmapped words = words
 
 -- ---- not to be believed, only proved: the number and the words of a response
-abbrev pub response_code : CallAnswer → OwnIds → ℕ
-response_code (Plain a) o = code_of (reply_of a)
-response_code Own o = o.supplementary.count
+abbrev pub response_code : Result Response Errno → ℕ
+response_code (Ok (Plain a)) = code_of (answered a)
+response_code (Ok (Own o)) = o.supplementary.count
+response_code (Err e) = negated (number_of e)
 
-abbrev pub response_ids : CallAnswer → OwnIds → List ℕ → List ℕ
-response_ids (Plain a) o words = words
-response_ids Own o words = put_at words 0 (ids_row o)
+abbrev pub response_ids : Result Response Errno → List ℕ → List ℕ
+response_ids (Ok (Plain a)) words = words
+response_ids (Ok (Own o)) words = put_at words 0 (ids_row o)
+response_ids (Err e) words = words

@@ -3,11 +3,10 @@
 // numbers.
 #![tactic(auto)]
 
-ghost use Rattle.std.specs.Prelude.{◌≤◌, ◌≡◌, length};
-ghost use Rattle.prelude.specs.Parts.{put_at};
+ghost use Rattle.std.specs.Prelude.{◌≡◌};
 ghost use Rattle.records.specs.declared.Kind.TheVariants.{User, Group};
 ghost use Rattle.tables.specs.Tables.{tables_width, tables_of, initial_tables};
-ghost use Rattle.tables.specs.Reply.{reply_of, number_of};
+ghost use Rattle.tables.specs.Reply.{answered, reply_of, number_of};
 ghost use Rattle.hierarchy.specs.KernelStarts.{quick};
 ghost use Rattle.process.specs.Calls.{fork_of, clone_of, unshare_of, setns_of};
 ghost use Rattle.mapping.specs.Calls.{write_map_of, write_setgroups_of, read_map_of, read_setgroups_of};
@@ -15,10 +14,10 @@ ghost use Rattle.credentials.specs.declared.translate.Way.TheVariants.{Out, Back
 ghost use Rattle.credentials.specs.Calls.{set_ids_of, set_groups_of, capable_reply, drop_of, own_ids_of, translate_reply};
 ghost use Rattle.exports.specs.Codes.{negated, code_of, Coded, CodedRead, space_after, ids_row, CodedIds};
 
-use credentials::own::{OwnAnswer, OwnIds};
+use credentials::own::OwnIds;
 use credentials::translate::Way;
 use idmap::NO_ID;
-use records::{Kind, MAX_GROUPS};
+use records::{Ids, Kind, MAX_GROUPS};
 use tables::answer::{Answer, Errno};
 use tables::{TABLES_WIDTH, Tables};
 
@@ -28,43 +27,32 @@ mod words;
 
 pub use words::RECORD_WORDS;
 
-// The number of a refusal.
-fn number(e: Errno) -> u64
-    ensures { result ≡ number_of e }
-{
-    match e {
-        Errno::EPERM => 1,
-        Errno::ESRCH => 3,
-        Errno::EAGAIN => 11,
-        Errno::EINVAL => 22,
-        Errno::ENOSPC => 28,
-        Errno::ERANGE => 34,
-        Errno::EUSERS => 87,
-    }
-}
-
-// The bits of -1.
-const MINUS_ONE: u64 = 18446744073709551615;
-
 // The number of a refusal, negated.
 pub(crate) fn refusal(e: Errno) -> u64
     ensures { result ≡ negated (number_of e) }
 {
-    MINUS_ONE - (number(e) - 1)
+    0u64.wrapping_sub(e as u64)
 }
 
-// The number of an answer.
-pub(crate) fn code(a: Answer) -> u64
+// The number of an answer or of a refusal.
+pub(crate) fn code(a: Result<Answer, Errno>) -> u64
     ensures { result ≡ code_of (reply_of a) }
 {
     match a {
-        Answer::Refused(e) => refusal(e),
-        Answer::Done => 0,
-        Answer::Child(p) => p,
-        Answer::ChildIn(p, _) => p,
-        Answer::NewNamespace(n) => n,
+        Ok(a) => answer_code(a),
+        Err(e) => refusal(e),
+    }
+}
+
+// The number of an answer.
+pub(crate) fn answer_code(a: Answer) -> u64
+    ensures { result ≡ code_of (answered a) }
+{
+    match a {
+        Answer::Done | Answer::No => 0,
         Answer::Yes => 1,
-        Answer::No => 0,
+        Answer::Child(p) | Answer::ChildIn(p, _) => p,
+        Answer::NewNamespace(n) => n,
         Answer::Length(n) => n as u64,
         Answer::Id(x) => x as u64,
         Answer::Unmapped => NO_ID as u64,
@@ -91,20 +79,12 @@ pub fn oarhatchet_fork(t: &mut Tables, caller: u64) -> u64
 }
 
 // The number of a new namespace where there is one, else what was there.
-pub(crate) fn space(a: Answer, old: u64) -> u64
+pub(crate) fn space(a: Result<Answer, Errno>, old: u64) -> u64
     ensures { result ≡ space_after (reply_of a) old }
 {
     match a {
-        Answer::ChildIn(_, n) => n,
-        Answer::Refused(_) => old,
-        Answer::Done => old,
-        Answer::Child(_) => old,
-        Answer::NewNamespace(_) => old,
-        Answer::Yes => old,
-        Answer::No => old,
-        Answer::Length(_) => old,
-        Answer::Id(_) => old,
-        Answer::Unmapped => old,
+        Ok(Answer::ChildIn(_, n)) => n,
+        _ => old,
     }
 }
 
@@ -174,7 +154,12 @@ pub fn oarhatchet_setresuid(
 ) -> u64
     ensures { Coded result t.old t.new (quick set_ids_of (tables_of t.old) User caller real effective saved) }
 {
-    code(credentials::ids::set_ids(t, Kind::User, caller, real, effective, saved))
+    let ids = Ids {
+        real,
+        effective,
+        saved,
+    };
+    code(credentials::ids::set_ids(t, Kind::User, caller, ids))
 }
 
 pub fn oarhatchet_setresgid(
@@ -186,7 +171,12 @@ pub fn oarhatchet_setresgid(
 ) -> u64
     ensures { Coded result t.old t.new (quick set_ids_of (tables_of t.old) Group caller real effective saved) }
 {
-    code(credentials::ids::set_ids(t, Kind::Group, caller, real, effective, saved))
+    let ids = Ids {
+        real,
+        effective,
+        saved,
+    };
+    code(credentials::ids::set_ids(t, Kind::Group, caller, ids))
 }
 
 pub fn oarhatchet_setgroups(t: &mut Tables, caller: u64, list: &[u32]) -> u64
@@ -213,17 +203,14 @@ pub const OWN_WORDS: usize = 6 + MAX_GROUPS;
 pub(crate) fn row(own: OwnIds) -> [u32; OWN_WORDS]
     ensures { result ≡ ids_row own }
 {
-    let users = own.users;
-    let groups = own.groups;
-    let list = own.supplementary;
-    let ids = list.ids;
+    let ids = own.supplementary.ids;
     [
-        users.real,
-        users.effective,
-        users.saved,
-        groups.real,
-        groups.effective,
-        groups.saved,
+        own.users.real,
+        own.users.effective,
+        own.users.saved,
+        own.groups.real,
+        own.groups.effective,
+        own.groups.saved,
         ids[0],
         ids[1],
         ids[2],
@@ -243,29 +230,15 @@ pub(crate) fn row(own: OwnIds) -> [u32; OWN_WORDS]
     ]
 }
 
-// Stores words at the start of a buffer that has room for them.
-#[tactic(auto, using(crate::proofs::Storing::put_start))]
-pub(crate) fn store(buffer: &mut [u32], words: &[u32])
-    requires { length words.now ≤ length buffer.old }
-    ensures { buffer.new ≡ put_at buffer.old 0 words.now }
-{
-    buffer[..words.len()].copy_from_slice(words);
-}
-
 pub fn oarhatchet_getids(t: &Tables, caller: u64, ids: &mut [u32; OWN_WORDS]) -> u64
     ensures { CodedIds result ids.old ids.new (quick own_ids_of (tables_of t.now) caller) }
 {
-    let result = credentials::own::own_ids(t, caller);
-    let answer = result.answer;
-    match answer {
-        OwnAnswer::NotTold(e) => refusal(e),
-        OwnAnswer::Told => {
-            let own = result.ids;
-            let words = row(own);
-            store(ids, &words);
-            let list = own.supplementary;
-            list.count
+    match credentials::own::own_ids(t, caller) {
+        Ok(own) => {
+            rows::put(ids, 0, &row(own));
+            own.supplementary.count
         }
+        Err(e) => refusal(e),
     }
 }
 

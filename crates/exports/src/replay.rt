@@ -2,55 +2,58 @@
 ghost use Rattle.std.specs.Prelude.{◌≡◌};
 ghost use Rattle.calls.specs.Calls.{call_reply};
 ghost use Rattle.journal.specs.Reading.{read_at, list_after};
-ghost use Rattle.replay_step.specs.Replay.{Unchanged};
+ghost use Rattle.replay_step.specs.Replay.{answer_in, Unchanged};
 ghost use Rattle.exports.specs.Codes.{space_after};
 ghost use Rattle.exports.specs.Replay.{response_code, response_ids, read_words, ids_after, step_at, CodedStep};
 
 use crate::words::RECORD_WORDS;
-use crate::{OWN_WORDS, code, row, space, store, words};
-use calls::{CallAnswer, Response};
+use crate::{OWN_WORDS, answer_code, refusal, row, space, words};
+use calls::Response;
 use journal::MAX_IDS;
-use replay_step::MAX_READ;
+use journal::read::Stopped;
+use replay_step::{MAX_READ, Replayed};
 use tables::Tables;
+use tables::answer::{Answer, Errno};
+
+// What the call of a step was answered; "done" where there is none.
+fn answer_of(step: Result<Option<Replayed>, Stopped>) -> Result<Response, Errno>
+    ensures { result ≡ answer_in step }
+{
+    match step {
+        Ok(Some(r)) => r.answer,
+        Ok(None) => Ok(Response::Plain(Answer::Done)),
+        Err(_) => Ok(Response::Plain(Answer::Done)),
+    }
+}
 
 // The number of what a call answers: own IDs are the number of groups.
-fn response_code(r: Response) -> u64
-    ensures { result ≡ response_code r.answer r.ids }
+fn response_code(r: Result<Response, Errno>) -> u64
+    ensures { result ≡ response_code r }
 {
-    let answer = r.answer;
-    let own = r.ids;
-    match answer {
-        CallAnswer::Plain(a) => code(a),
-        CallAnswer::Own => {
-            let list = own.supplementary;
-            list.count
-        }
+    match r {
+        Ok(Response::Plain(a)) => answer_code(a),
+        Ok(Response::Own(o)) => o.supplementary.count,
+        Err(e) => refusal(e),
     }
 }
 
 // The new namespace of a clone, else 0.
-fn new_namespace(r: Response) -> u64
+fn new_namespace(r: Result<Response, Errno>) -> u64
     ensures { result ≡ space_after (call_reply r) 0 }
 {
-    let answer = r.answer;
-    match answer {
-        CallAnswer::Plain(a) => space(a, 0),
-        CallAnswer::Own => 0,
+    match r {
+        Ok(Response::Plain(a)) => space(Ok(a), 0),
+        Ok(Response::Own(_)) => 0,
+        Err(_) => 0,
     }
 }
 
 // Stores own IDs where the answer is these.
-fn put_own(r: Response, ids: &mut [u32; OWN_WORDS])
-    ensures { ids.new ≡ response_ids r.answer r.ids ids.old }
+fn put_own(r: Result<Response, Errno>, ids: &mut [u32; OWN_WORDS])
+    ensures { ids.new ≡ response_ids r ids.old }
 {
-    let answer = r.answer;
-    let own = r.ids;
-    match answer {
-        CallAnswer::Plain(_) => {}
-        CallAnswer::Own => {
-            let words = row(own);
-            store(ids, &words);
-        }
+    if let Ok(Response::Own(o)) = r {
+        rows::put(ids, 0, &row(o));
     }
 }
 
@@ -73,11 +76,9 @@ pub fn oarhatchet_replay(
     ensures list { list.new ≡ list_after journal.now (read_at journal.now at) list.old }
     ensures ids { ids.new ≡ ids_after (step_at t.old journal.now at buffer.old).reply ids.old }
 {
-    let replayed = replay_step::step(t, journal, at, list, buffer);
-    let read = replayed.read;
-    let response = replayed.response;
-    let words = words::words_of(read, at, new_namespace(response));
-    *record = words;
+    let step = replay_step::step(t, journal, at, list, buffer);
+    let response = answer_of(step);
+    *record = words::words_of(step, at, new_namespace(response));
     put_own(response, ids);
     response_code(response)
 }

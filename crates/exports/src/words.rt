@@ -1,22 +1,15 @@
 // What stands at an offset of a journal, as words.
 ghost use Rattle.std.specs.Prelude.{◌≡◌};
-ghost use Rattle.journal.specs.Layout.{byte_of};
+ghost use Rattle.replay_step.specs.Replay.{read_in};
 ghost use Rattle.exports.specs.Replay.{stop_number, found_words, plain_words, read_words};
 
-use calls::Call;
 use journal::layout;
-use journal::read::{Read, Record, Stop};
+use journal::read::{Record, Stop, Stopped};
+use replay_step::Replayed;
 
 // The words of what stands at an offset: what it is, three names, three other numbers, where these end and the call's
 // text or list starts, the bytes of the one, the IDs of the other, an offset, and the new namespace of a clone.
 pub const RECORD_WORDS: usize = 12;
-
-// A call byte in a word.
-fn byte_word(c: Call) -> u64
-    ensures { result ≡ byte_of c }
-{
-    layout::byte_of(c) as u64
-}
 
 // The number of a stop's reason.
 fn stop_number(why: Stop) -> u64
@@ -43,11 +36,10 @@ fn found_words(r: Record, namespace: u64) -> [u64; RECORD_WORDS]
     ensures { result ≡ found_words r namespace }
 {
     let c = r.call;
-    let byte = byte_word(c);
     let names = layout::names_of(c);
     let numbers = layout::numbers_of(c, r.buffer as u64);
     [
-        byte,
+        layout::byte_of(c) as u64,
         names[0],
         names[1],
         names[2],
@@ -63,11 +55,15 @@ fn found_words(r: Record, namespace: u64) -> [u64; RECORD_WORDS]
 }
 
 // The words of what stands at an offset, with the new namespace of the call.
-pub(crate) fn words_of(read: Read, at: usize, namespace: u64) -> [u64; RECORD_WORDS]
-    ensures { result ≡ read_words read at namespace }
+pub(crate) fn words_of(
+    step: Result<Option<Replayed>, Stopped>,
+    at: usize,
+    namespace: u64,
+) -> [u64; RECORD_WORDS]
+    ensures { result ≡ read_words (read_in step) at namespace }
 {
-    match read {
-        Ok(Some(r)) => found_words(r, namespace),
+    match step {
+        Ok(Some(r)) => found_words(r.record, namespace),
         Ok(None) => plain_words(0, at),
         Err(s) => plain_words(stop_number(s.why), s.at),
     }
