@@ -1,4 +1,5 @@
 -- What each exported function promises is a step of document 01's calls, of which it tells the number. Assumes nothing.
+use Rattle.std.specs.Prelude.{Result}
 use Prim.Native.Nat.{ℕ, suc, ◌+◌, ◌-◌, ◌*◌, ◌≤◌}
 use mathlib.Core.Path.{◌≡◌, refl, ap, ◌∙◌}
 use mathlib.Core.List.{List, ◌++◌, map}
@@ -22,7 +23,7 @@ use Rattle.hierarchy.specs.Walks.{Translation}
 use Rattle.hierarchy.specs.KernelStarts.{quick}
 use Rattle.mapping.specs.Calls.{ReadOutcome}
 use Rattle.credentials.specs.declared.own.OwnIds.{OwnIds}
-use Rattle.credentials.specs.declared.own.OwnResult.{OwnResult}
+use Rattle.tables.specs.declared.answer.Errno.{Errno}
 use Rattle.credentials.specs.OwnReply.{ids_list, own_reply}
 use Rattle.credentials.specs.Calls.{group_list, seen, seen_ids, seen_groups, own_ids_of}
 use Rattle.calls.specs.declared.Call.{Call}
@@ -40,8 +41,8 @@ groups_code : (u g : Ids) (xs : List ℕ) → (group_list xs).count ≡ length (
 unfolding group_list
 groups_code u g xs = let h = ap length (take-append_seam xs (replicate (max_groups - length xs) 0)) in omega arith
 
-abbrev OwnCode : OwnResult → Type 0
-OwnCode own = own_code own.answer own.ids ≡ code_of (own_reply own)
+abbrev OwnCode : Result OwnIds Errno → Type 0
+OwnCode own = own_code own ≡ code_of (own_reply own)
 
 own_code_lem : (by : Translation) (s : State) (c : ℕ) → OwnCode (own_ids_of by s c)
 unfolding own_ids_of seen_groups
@@ -67,8 +68,8 @@ groups_long l i =
     (λ t. ap (λ (p : Process). length p.supplementary.ids) (row_get process_of process_width process_places processes_at l i free_process (processes_at + i * process_width) refl (ltb-true i process_places t)))
     (λ t. ap (λ (p : Process). length p.supplementary.ids) (row_none process_of process_width process_places processes_at l i free_process (ltb-false i process_places t)))
 
-abbrev OwnWords : List ℕ → OwnResult → Type 0
-OwnWords words own = own_words own.answer own.ids words ≡ words_after (own_reply own) words
+abbrev OwnWords : List ℕ → Result OwnIds Errno → Type 0
+OwnWords words own = own_words own words ≡ words_after (own_reply own) words
 
 pub exported_words : (by : Translation) (l : List ℕ) (c code : ℕ) (words words' : List ℕ) → CodedIds code words words' (own_ids_of by (tables_of l) c) → words' ≡ words_after (own_reply (own_ids_of by (tables_of l) c)) words
 unfolding own_ids_of seen_groups

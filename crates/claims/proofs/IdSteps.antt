@@ -20,7 +20,7 @@ use Rattle.records.specs.Records.{ids_in, max_groups}
 use Rattle.tables.specs.Tables.{State, process_at, put_process}
 use Rattle.tables.specs.Find.{caller_named}
 use Rattle.hierarchy.specs.Walks.{Translation}
-use Rattle.credentials.specs.Calls.{chosen, with_users, with_groups, with_ids, set_ids_of, to_option, group_list, with_list, kernel_groups, set_groups_of, with_sets, drop_of}
+use Rattle.credentials.specs.Calls.{chosen, with_users, with_groups, with_ids, set_ids_of, group_list, with_list, kernel_groups, set_groups_of, with_sets, drop_of}
 use Rattle.calls.specs.declared.Call.TheVariants.{SetIds, SetGroups, Drop}
 use Rattle.claims.specs.Events.{Event, changed, grouped}
 use Rattle.claims.specs.Words.{Held, is_process, is_namespace, place_of, parent_of, level_of, written_of, held_of, stands_for, chosen_of, changed_ids, same_kind}
@@ -71,25 +71,21 @@ sets_ids User p permitted effective = refl
 sets_ids Group p permitted effective = refl
 
 -- ---- the groups of a list, each mapped
-option_id : (t : Option ℕ) (y : ℕ) → to_option t ≡ Some y → t ≡ Some y
-option_id (Some x) y e = let f : x ≡ y = cc in ap Some f
-option_id None y e = absurd (some_none (sym e))
-
-groups_are : (g : ℕ → Option ℕ) (list l : List ℕ) → all_of (λ (x : ℕ). to_option (g x)) list ≡ Some l → l ≡ map (λ (x : ℕ). or_no_id (g x)) list
+groups_are : (g : ℕ → Option ℕ) (list l : List ℕ) → all_of g list ≡ Some l → l ≡ map (λ (x : ℕ). or_no_id (g x)) list
 unfolding all_of
 groups_are g [] l e = cc
 groups_are g (x ∷ list) l e =
-    let r = cons_some (to_option (g x)) (all_of (λ (x : ℕ). to_option (g x)) list) l e in
+    let r = cons_some (g x) (all_of g list) l e in
     r.4
-    ∙ ap (λ (y : ℕ). y ∷ r.1) (sym (ap or_no_id (option_id (g x) r.0 r.2)))
+    ∙ ap (λ (y : ℕ). y ∷ r.1) (sym (ap or_no_id r.2))
     ∙ ap (λ (ys : List ℕ). or_no_id (g x) ∷ ys) (groups_are g list r.1 r.3)
 
-groups_stand : (h : List Event) (n : ℕ) (list l : List ℕ) → AllSmall list → all_of (λ (x : ℕ). to_option (stands_for Group h n x)) list ≡ Some l → AllStand h n list
+groups_stand : (h : List Event) (n : ℕ) (list l : List ℕ) → AllSmall list → all_of (stands_for Group h n) list ≡ Some l → AllStand h n list
 unfolding all_of AllSmall AllStand
 groups_stand h n [] l b e = tt
 groups_stand h n (x ∷ list) l b e =
-    let r = cons_some (to_option (stands_for Group h n x)) (all_of (λ (x : ℕ). to_option (stands_for Group h n x)) list) l e in
-    (b.0, (r.0, option_id (stands_for Group h n x) r.0 r.2), groups_stand h n list r.1 b.1 r.3)
+    let r = cons_some (stands_for Group h n x) (all_of (stands_for Group h n) list) l e in
+    (b.0, (r.0, r.2), groups_stand h n list r.1 b.1 r.3)
 
 module _ (by : Translation) (s : State) (h : List Event) (a : Agreed s h) (b : Beside s h) (o : by ≡ by_history h) (text list : List ℕ) where
   outs : (k : Kind) (n x : ℕ) → by.out k n x ≡ stands_for k h n x
@@ -184,10 +180,10 @@ module _ (by : Translation) (s : State) (h : List Event) (a : Agreed s h) (b : B
 
   -- ---- setgroups
   module _ (c i : ℕ) (e : caller_named s c ≡ Some i) (l : List ℕ) (f : kernel_groups by (process_at s i).namespace list ≡ Some l) where
-    all_stand : all_of (λ (x : ℕ). to_option (stands_for Group h (place_of h c) x)) list ≡ Some l
+    all_stand : all_of (stands_for Group h (place_of h c)) list ≡ Some l
     unfolding kernel_groups
     all_stand =
-        ap (λ (g : ℕ → Option ℕ). all_of (λ (x : ℕ). to_option (g x)) list) (λ j x. (sym (ap (λ (n : ℕ). stands_for Group h n x) (caller_place s h a c i e)) ∙ sym (outs Group (process_at s i).namespace x)) j)
+        ap (λ (g : ℕ → Option ℕ). all_of g list) (λ j x. (sym (ap (λ (n : ℕ). stands_for Group h n x) (caller_place s h a c i e)) ∙ sym (outs Group (process_at s i).namespace x)) j)
         ∙ f
 
     listed : take (group_list l).count (group_list l).ids ≡ map (λ (x : ℕ). or_no_id (stands_for Group h (place_of h c) x)) list

@@ -1,5 +1,5 @@
 -- Every refusal has its number and leaves everything as it was. Assumes nothing.
-use Rattle.std.specs.Prelude.{Option, Some, None}
+use Rattle.std.specs.Prelude.{Option, Some, None, Result}
 use Prim.Native.Nat.{ℕ}
 use mathlib.Core.Path.{◌≡◌, refl, sym, ap, ◌∙◌, subst}
 use mathlib.Core.Bool.{Bool, true, false, cond, true≢false}
@@ -13,7 +13,8 @@ use Rattle.tables.specs.Find.{process_named, namespace_named, caller_named}
 use Rattle.tables.specs.Reply.{Reply, refused, yes', no', is_refused, Outcome}
 use Rattle.hierarchy.specs.Walks.{Translation, capable_in}
 use Rattle.mapping.specs.Calls.{ReadOutcome, read_text, read_map_of, read_setgroups_of}
-use Rattle.credentials.specs.declared.own.OwnResult.{OwnResult}
+use Rattle.tables.specs.declared.answer.Errno.{Errno}
+use Rattle.credentials.specs.declared.own.OwnIds.{OwnIds}
 use Rattle.credentials.specs.OwnReply.{own_reply}
 use Rattle.credentials.specs.Calls.{capable_reply, own_ids_of, translated, turned, translate_reply}
 use Rattle.calls.specs.declared.Call.{Call}
@@ -80,7 +81,7 @@ module _ (by : Translation) (s : State) (buffer : List ℕ) where
       (λ t. rw t (answers s s buffer _ _ (question (capable_in s (process_at s i) m number))))))
   call_refuses (Drop c p e) text list = drop_case by s Stored (refuses s buffer) c p e (λ i f. answers s _ buffer _ _ refl)
   call_refuses (OwnIdsOf c) text list =
-      found_case (λ (r : OwnResult). Asked (own_reply r)) (caller_named s c) (refuses s buffer 3 is_3) (λ i e. answers s s buffer _ _ refl)
+      found_case (λ (r : Result OwnIds Errno). Asked (own_reply r)) (caller_named s c) (refuses s buffer 3 is_3) (λ i e. answers s s buffer _ _ refl)
   call_refuses (Translate k w c n x) text list =
       found_case Asked (caller_named s c) (refuses s buffer 3 is_3) (λ i e.
       found_case Asked (namespace_named s i n) (refuses s buffer 3 is_3) (λ m f. answers s s buffer _ _ (translation (turned by k w m x))))

@@ -4,9 +4,10 @@ use mathlib.Core.Path.{◌≡◌, refl, sym, ap, ◌∙◌}
 use mathlib.Core.List.{List, [], ◌∷◌, ◌++◌, map, append_assoc, append-nil}
 use native.Mathlib.Omega.{arith}
 use lib.ListN.{length}
-use Rattle.std.specs.Prelude.{Some, None, Ok, Err}
+use Rattle.std.specs.Prelude.{Some, None, Ok, Err, Result}
 use Rattle.tables.specs.Tables.{tables_of, initial_tables}
 use Rattle.tables.specs.Reply.{Reply}
+use Rattle.tables.specs.declared.answer.Errno.{Errno}
 use Rattle.calls.specs.declared.Response.{Response}
 use Rattle.calls.specs.Calls.{Request, call_reply, CallPromise, Step}
 use Rattle.journal.specs.declared.read.Record.{Record}
@@ -40,7 +41,7 @@ unfolding run_from history_from AllFit
 start l a e = record { tables = e; told = refl; fit = tt; n = suc (length l); enough = omega arith; inside = omega arith; rest = refl }
 
 -- one step more
-module _ (l a b after lent : List ℕ) (at : ℕ) (rs : List Request) (replies : List Reply) (r : Record) (response : Response) (c : Chain l a at rs replies)
+module _ (l a b after lent : List ℕ) (at : ℕ) (rs : List Request) (replies : List Reply) (r : Record) (response : Result Response Errno) (c : Chain l a at rs replies)
     (found : read_at l at ≡ Ok (Some r)) (full : length lent ≡ max_read) (p : CallPromise response a b after (replay_of (tables_of a) l (read_at l at) lent)) where
   abbrev q : Request
   q = request_at l r

@@ -1,14 +1,15 @@
 -- What a host has and sees that keeps its tables by this code alone, call after call, through the entry point, through
 -- exported functions or by replaying journals: document 01's run of these calls. `executes` of proofs/Executes.antt
 -- proves it. Assumes nothing.
-use Rattle.std.specs.Prelude.{ℕ, ◌-◌, ◌≡◌, true, cond, List, [], ◌∷◌, ◌++◌, length, replicate, Some, Ok}
+use Rattle.std.specs.Prelude.{ℕ, ◌-◌, ◌≡◌, true, cond, List, [], ◌∷◌, ◌++◌, length, replicate, Some, Ok, Result}
 use Rattle.prelude.specs.Parts.{put_at}
 use Rattle.tables.specs.Tables.{tables_of, initial_tables}
 use Rattle.tables.specs.Reply.{Reply, Outcome, is_refused}
 use Rattle.hierarchy.specs.KernelStarts.{by_kernel_starts, quick}
 use Rattle.process.specs.Calls.{fork_of, clone_of, unshare_of, setns_of}
 use Rattle.mapping.specs.Calls.{ReadOutcome, write_map_of, write_setgroups_of, read_map_of, read_setgroups_of}
-use Rattle.credentials.specs.declared.own.OwnResult.{OwnResult}
+use Rattle.tables.specs.declared.answer.Errno.{Errno}
+use Rattle.credentials.specs.declared.own.OwnIds.{OwnIds}
 use Rattle.credentials.specs.Calls.{set_ids_of, set_groups_of, capable_reply, drop_of, own_ids_of, translate_reply}
 use Rattle.calls.specs.declared.Response.{Response}
 use Rattle.calls.specs.declared.Call.{Call}
@@ -40,7 +41,7 @@ module _ (code : ℕ) (entry exit before after : List ℕ) where
   Asks r = (code ≡ code_of r) × (exit ≡ entry) × (after ≡ before)
 
   -- the own-ID question, which puts the IDs into words that are lent to it
-  abbrev pub Tells : OwnResult → Type 0
+  abbrev pub Tells : Result OwnIds Errno → Type 0
   Tells own = ((words words' : List ℕ) × CodedIds code words words' own) × (exit ≡ entry) × (after ≡ before)
 
   abbrev pub ExportPromise : Call → List ℕ → List ℕ → Type 0
@@ -78,7 +79,7 @@ pub data Execution : List ℕ → List Entry → Type 0 where
   -- the first array is one that `tables::initial::initial` leaves
   started : {a : List ℕ} → tables_of a ≡ initial_tables → Execution a []
   -- a call through the entry point, `calls::answer`, with what it promises. Its IDs have the interface's types
-  answered : {a b after : List ℕ} {h : List Entry} {r : Request} {response : Response} → Execution a h → Fits r
+  answered : {a b after : List ℕ} {h : List Entry} {r : Request} {response : Result Response Errno} → Execution a h → Fits r
       → CallPromise response a b after (step_of by_kernel_starts (tables_of a) r)
       → Execution b (record { request = r; reply = call_reply response; buffer = after } ∷ h)
   -- a call through an exported function, with what it promises. The number that it answers is that of this reply
@@ -88,7 +89,7 @@ pub data Execution : List ℕ → List Entry → Type 0 where
       → Execution b (record { request = r; reply = (step_of by_kernel_starts (tables_of a) r).reply; buffer = after } ∷ h)
   -- the call of a record of a journal l, through `replay_step::step`, with what it promises of the buffer lent to it.
   -- The entry has the buffer that the record says, of which the bytes read are the lent one's (`SameAnswer`)
-  replayed : {a b after : List ℕ} {h : List Entry} {r : Record} {response : Response} → Execution a h → (l lent : List ℕ) (at : ℕ)
+  replayed : {a b after : List ℕ} {h : List Entry} {r : Record} {response : Result Response Errno} → Execution a h → (l lent : List ℕ) (at : ℕ)
       → read_at l at ≡ Ok (Some r) → length lent ≡ max_read → CallPromise response a b after (replay_of (tables_of a) l (read_at l at) lent)
       → Execution b (record {
         request = request_at l r;

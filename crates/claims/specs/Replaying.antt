@@ -1,8 +1,9 @@
 -- Journals that are replayed: demand 3 covers their calls as any others. `replayed` and `replays` of
 -- proofs/Replayed.antt prove it. Assumes nothing.
-use Rattle.std.specs.Prelude.{ℕ, ◌≡◌, List, [], ◌∷◌, ◌++◌, map, length, Some, Ok}
+use Rattle.std.specs.Prelude.{ℕ, ◌≡◌, List, [], ◌∷◌, ◌++◌, map, length, Some, Ok, Result}
 use Rattle.tables.specs.Tables.{tables_of, initial_tables}
 use Rattle.tables.specs.Reply.{Reply}
+use Rattle.tables.specs.declared.answer.Errno.{Errno}
 use Rattle.calls.specs.declared.Response.{Response}
 use Rattle.calls.specs.Calls.{Request, call_reply, CallPromise}
 use Rattle.journal.specs.declared.read.Record.{Record}
@@ -24,7 +25,7 @@ pub data Replay (l : List ℕ) : List ℕ → ℕ → List Request → List Repl
   began : {a : List ℕ} → tables_of a ≡ initial_tables → Replay l a 0 [] []
   -- a step that found a record, with what it promises of the buffer lent to it; the next offset is that of the next
   -- record
-  stepped : {a b after : List ℕ} {at : ℕ} {rs : List Request} {replies : List Reply} {r : Record} {response : Response} → Replay l a at rs replies
+  stepped : {a b after : List ℕ} {at : ℕ} {rs : List Request} {replies : List Reply} {r : Record} {response : Result Response Errno} → Replay l a at rs replies
       → read_at l at ≡ Ok (Some r) → (lent : List ℕ) → length lent ≡ max_read → CallPromise response a b after (replay_of (tables_of a) l (read_at l at) lent)
       → Replay l b r.next (rs ++ (request_at l r ∷ [])) (call_reply response ∷ replies)
 
