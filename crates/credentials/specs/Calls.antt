@@ -1,6 +1,6 @@
 -- ID changes, setgroups, own IDs, the capability question, drop and translate: document 01, 'The calls, and the order
 -- in which each refuses'. Assumes nothing.
-use Rattle.std.specs.Prelude.{ℕ, ◌-◌, Bool, true, false, cond, not, ◌&&◌, ◌||◌, List, [], ◌++◌, map, eqb, ltb, length, take, replicate, Option, Some, None, option_map, Result, Ok, Err}
+use Rattle.std.specs.Prelude.{ℕ, ◌-◌, Bool, false, cond, not, ◌&&◌, ◌||◌, List, ◌++◌, map, eqb, ltb, length, take, replicate, Option, Some, None, option_map, Result, Ok, Err}
 use Rattle.prelude.specs.Lists.{all_of}
 use Rattle.capability.specs.Sets.{cap_setgid, cap_last_cap, empty_set, is_within}
 use Rattle.idmap.specs.Good.{no_id}
@@ -10,7 +10,7 @@ use Rattle.records.specs.declared.Kind.TheVariants.{User, Group}
 use Rattle.records.specs.declared.Ids.{Ids}
 use Rattle.records.specs.declared.GroupList.{GroupList}
 use Rattle.records.specs.declared.Process.{Process}
-use Rattle.records.specs.Records.{max_groups, zero_ids, no_groups, ids_in, set_id_of, is_written}
+use Rattle.records.specs.Records.{max_groups, ids_in, set_id_of, is_written}
 use Rattle.tables.specs.Tables.{State, process_at, namespace_at, put_process}
 use Rattle.tables.specs.Find.{caller_named, namespace_named}
 use Rattle.tables.specs.Reply.{Reply, refused, done, yes', no', id, unmapped, Outcome, refuse, on_found, when, unless}

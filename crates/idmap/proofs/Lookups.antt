@@ -1,9 +1,9 @@
 -- What one turn of a loop over the lines does, in the words of the code: each law's premises are what a place knows.
 -- Assumes nothing.
-use Rattle.std.proofs.Common.{◌≡◌, ℕ, ◌+◌, ◌-◌, ◌%◌, ◌^◌, ◌<◌, ◌≤◌, Bool, true, false, ltb, List, ◌∷◌, length, take, drop, sym, refl, ap, ◌∙◌, le_of_lt, arith, rules, ltb-true, Some}
+use Rattle.std.proofs.Common.{◌≡◌, ℕ, ◌-◌, ◌<◌, ◌≤◌, true, false, List, ◌∷◌, length, take, drop, ap, ◌∙◌}
 use Rattle.idmap.specs.declared.Line.{Line}
 use Rattle.idmap.specs.declared.LookedUp.{LookedUp}
-use Rattle.idmap.specs.Line.{less, in_range, line_words, line_of, lines_by}
+use Rattle.idmap.specs.Line.{in_range, line_words, line_of, lines_by}
 use Rattle.idmap.specs.Lookup.{held_by, held_by_none, lookup_of, out, back}
 use Rattle.prelude.proofs.Lists.{rest_is}
 use Rattle.idmap.proofs.Words.{four, lines_next, lines_none, lines_flip}

@@ -1,11 +1,10 @@
 -- The scans of the reader, turn by turn, in the words of the code: each law's premises are what a place knows. Assumes
 -- nothing.
-use Rattle.std.proofs.Common.{◌≡◌, ℕ, ◌+◌, ◌-◌, ◌*◌, ◌<◌, ◌≤◌, Bool, true, false, not, eqb, leb, List, [], ◌∷◌, length, get_or, drop, sym, refl, ◌∙◌, add-one, arith, drop_of_length-le, drop-cons, w64, Fits, rules, le-ltb, lt-ltb, eq-eqb, ne_eqb, le-leb, leb-true, Option, Some, None}
+use Rattle.std.proofs.Common.{◌≡◌, ℕ, ◌+◌, ◌-◌, ◌*◌, ◌<◌, ◌≤◌, Bool, true, false, leb, List, [], ◌∷◌, length, get_or, drop, sym, refl, ◌∙◌, add-one, arith, drop_of_length-le, drop-cons, w64, Fits, leb-true, Option, None}
 use borrow.Author.Tests.{lt-leb}
-use Rattle.idmap.specs.declared.Line.{Line}
 use Rattle.idmap.specs.Good.{no_id}
 use Rattle.idmap.specs.Text.{is_blank, is_digit}
-use Rattle.idmap.specs.Scan.{span, value, skipped, ended, number_at, field_at, line_end, scan_line}
+use Rattle.idmap.specs.Scan.{span, value, skipped, ended, number_at}
 use Rattle.prelude.proofs.Tests.{cond_elim, both}
 
 -- ---- a span of bytes

@@ -1,5 +1,5 @@
 -- Fork, clone, unshare and setns: document 01, 'The calls, and the order in which each refuses'. Assumes nothing.
-use Rattle.std.specs.Prelude.{ℕ, ◌+◌, Bool, true, false, ◌&&◌, leb, eqb, Option, Some, None, is_some}
+use Rattle.std.specs.Prelude.{ℕ, ◌+◌, Bool, true, ◌&&◌, leb, eqb, Option, is_some}
 use Rattle.capability.specs.Sets.{cap_sys_admin, full_set}
 use Rattle.records.specs.declared.Kind.TheVariants.{User, Group}
 use Rattle.records.specs.declared.Process.{Process}

@@ -1,29 +1,19 @@
 -- A record's words are read as the record: laws for the code that lays a record out. Assumes nothing.
-use Rattle.std.specs.Prelude.{Option, Some, None}
-use Prim.Native.Nat.{ℕ, zero, suc, ◌+◌, ◌*◌, ◌%◌, ◌^◌}
-use mathlib.Core.Path.{◌≡◌, refl, sym, ap, ap₂, ◌∙◌}
+use Prim.Native.Nat.{ℕ, zero, suc, ◌%◌, ◌^◌}
+use mathlib.Core.Path.{◌≡◌, refl, ap₂, ◌∙◌}
 use mathlib.Core.Bool.{Bool, true, false}
 use mathlib.Core.List.{List, [], ◌∷◌, ◌++◌}
 use native.Mathlib.Nat.{mod-eq_of_lt}
 use lib.Dec.{eqb}
-use lib.ListN.{length, get_or, take, drop, set, replicate}
+use lib.ListN.{length, get_or}
 use mir.Val.{Fits, bool_byte}
 use mir.Syntax.{w32}
-use borrow.Author.Rules.{rules}
 use borrow.Author.Tests.{eq-eqb, ne_eqb}
-use Rattle.prelude.proofs.Lists.{copy_step, copy_all}
 use Rattle.prelude.specs.Lists.{tab}
 use Rattle.prelude.proofs.Made.{tab_all}
-use Rattle.idmap.specs.declared.Line.{Line}
-use Rattle.idmap.specs.Line.{no_line, line_words, inside_column, parent_column, kernel_column, line_of, line_at}
-use Rattle.idmap.specs.Good.{max_lines}
-use Rattle.records.specs.declared.Kind.{Kind}
-use Rattle.records.specs.declared.Kind.TheVariants.{User, Group}
-use Rattle.records.specs.declared.IdMap.{IdMap}
-use Rattle.records.specs.declared.Namespace.{Namespace}
 use Rattle.records.specs.declared.Ids.{Ids}
 use Rattle.records.specs.declared.Process.{Process}
-use Rattle.records.specs.Records.{low_at, starts_in, starts_of, starts_from, no_starts, unmapped, ids_at, max_groups, process_width, free_process, process_of, process_from, state_of, first_line_at, map_width, map_at, map_of, map_from, free_map, deny_at, namespace_width, namespace_of, namespace_from, free_namespace}
+use Rattle.records.specs.Records.{starts_in, starts_from, max_groups, process_width, process_of, process_from, map_width, map_of, map_from, free_map, namespace_width, namespace_of, namespace_from}
 
 -- a flag is read from its word
 pub flag_round : (b : Bool) → eqb (bool_byte b) 1 ≡ b

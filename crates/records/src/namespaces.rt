@@ -54,7 +54,11 @@ pub fn map_at(kind: Kind) -> usize
 fn state_of(tag: u64, n: u64) -> Option<usize>
     ensures { result ≡ state_of tag n }
 {
-    if tag == WRITTEN { Some(n as usize) } else { None }
+    if tag == WRITTEN {
+        Some(n as usize)
+    } else {
+        None
+    }
 }
 
 // Line `i` of a map's words, as it was written.

@@ -1,22 +1,16 @@
 -- Finding a place, turn by turn, in the words of the code. Assumes nothing.
 use Rattle.std.specs.Prelude.{Option, Some, None, option_map, MatchOption}
-use Prim.Native.Nat.{ℕ, zero, suc, ◌+◌, ◌-◌, ◌≤◌, ◌<◌}
-use mathlib.Core.Path.{◌≡◌, refl, sym, ap, ◌∙◌}
+use Prim.Native.Nat.{ℕ, zero, suc, ◌+◌, ◌≤◌, ◌<◌}
+use mathlib.Core.Path.{◌≡◌, refl, ap, ◌∙◌}
 use mathlib.Core.Bool.{Bool, true, false}
 use mathlib.Core.List.{List, [], ◌∷◌}
-use native.Mathlib.Numerals.{add-one}
 use native.Mathlib.Omega.{arith}
-use lib.ListN.{length, get_or, drop, drop_of_length-le}
-use lib.Seq.{drop-cons}
-use mir.Val.{Fits}
-use mir.Syntax.{w64}
-use borrow.Author.Rules.{rules}
-use borrow.Author.Tests.{eq-eqb, ne_eqb}
+use lib.ListN.{length, get_or}
 use Rattle.records.specs.declared.Process.{Process}
 use Rattle.records.specs.declared.Namespace.{Namespace}
 use Rattle.records.specs.Records.{free_process, free_namespace}
-use Rattle.tables.specs.Tables.{State, process_places, namespace_places, tables_of, process_at, namespace_at}
-use Rattle.tables.specs.Find.{process_number, namespace_number, caller_named, process_named, namespace_named, free_from, free_process_place, free_namespace_place, free_as}
+use Rattle.tables.specs.Tables.{process_places, namespace_places, tables_of, process_at, namespace_at}
+use Rattle.tables.specs.Find.{free_from, free_process_place, free_namespace_place}
 use Rattle.tables.proofs.Tables.{length_processes, length_namespaces}
 
 -- ---- the lowest unused place, of any table

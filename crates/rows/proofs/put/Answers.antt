@@ -6,14 +6,14 @@ use Rattle.rows.proofs.put.Goals.{then-t-at-via-then-t-at, then-t-at-via-else-t-
 
 pub returns-then-t-at-clause-answer : goal.returns-then-t-at-clause-answer
 returns-then-t-at-clause-answer g c = fits_not c.args.t.now c.args.at c.args.row.now (elim c.then-t-at.branch [
-    then-t-at-via-then-t-at w ↦ inl (omega arith)
-    | then-t-at-via-else-t-at+then-t-at-2 w ↦ inr (omega arith)
+  | then-t-at-via-then-t-at w ↦ inl (omega arith)
+  | then-t-at-via-else-t-at+then-t-at-2 w ↦ inr (omega arith)
 ])
 
 pub returns-then-t-at-clause-stored : goal.returns-then-t-at-clause-stored
 returns-then-t-at-clause-stored g c = put_not c.args.t.now c.args.at c.args.row.now (elim c.then-t-at.branch [
-    then-t-at-via-then-t-at w ↦ inl (omega arith)
-    | then-t-at-via-else-t-at+then-t-at-2 w ↦ inr (omega arith)
+  | then-t-at-via-then-t-at w ↦ inl (omega arith)
+  | then-t-at-via-else-t-at+then-t-at-2 w ↦ inr (omega arith)
 ])
 
 pub returns-clause-answer : goal.returns-clause-answer

@@ -1,6 +1,5 @@
 -- `credentials::capability_calls::with_sets` meets its contract: what a part is lowered to is the part. Assumes nothing.
 use Rattle.std.proofs.Common.{◌≡◌, ◌∙◌}
-use Rattle.capability.specs.declared.CapabilitySet.{CapabilitySet}
 use Rattle.capability.proofs.Sets.{lowered_all}
 use Rattle.credentials.specs.Calls.{with_sets}
 use Rattle.credentials.proofs.capability_calls.with_sets.Goals as goal

@@ -1,5 +1,5 @@
 -- `credentials::groups::kernel_groups` meets its contract. Assumes nothing.
-use Rattle.std.proofs.Common.{◌∙◌, sym, arith, rules}
+use Rattle.std.proofs.Common.{◌∙◌, sym, arith}
 use Rattle.hierarchy.specs.KernelStarts.{by_kernel_starts}
 use Rattle.credentials.proofs.GroupLists.{listed_starts, listed_step, listed_unmapped, listed_ends}
 use Rattle.credentials.proofs.groups.kernel_groups.Goals as goal

@@ -1,5 +1,4 @@
 -- `credentials::groups::kernel_groups`: the first `i` groups are mapped, and their kernel IDs are made.
-use Rattle.std.proofs.Common.{◌≡◌}
 use Rattle.tables.specs.Tables.{tables_of}
 use Rattle.hierarchy.specs.KernelStarts.{by_kernel_starts}
 use Rattle.credentials.proofs.GroupLists.{ListedTo}

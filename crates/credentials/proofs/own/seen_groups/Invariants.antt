@@ -1,5 +1,4 @@
 -- `credentials::own::seen_groups`: the first `i` groups are made as the namespace sees them.
-use Rattle.std.proofs.Common.{◌≡◌}
 use Rattle.tables.specs.Tables.{tables_of}
 use Rattle.hierarchy.specs.KernelStarts.{by_kernel_starts}
 use Rattle.credentials.proofs.GroupLists.{SeenTo}

@@ -6,10 +6,10 @@ use Rattle.idmap.proofs.overlap.good.Goals.{then-not-bounded-via-then-not-bounde
 
 pub returns-then-not-bounded : goal.returns-then-not-bounded
 returns-then-not-bounded c = sym (c.loop-left.invariant ∙ elim c.then-not-bounded.branch [
-    then-not-bounded-via-then-not-bounded w ↦
-        good_unbounded _ c.in-len1-up.len_at_least (sym c.bounded.ensures ∙ w.if-not-bounded.true)
-    | then-not-bounded-via-else-not-bounded+then-not-clear w ↦
-        good_unclear _ c.in-len1-up.len_at_least (sym c.bounded.ensures ∙ w.if-not-bounded.false) (sym (w.clear.ensures ∙ all_apart_list _ _) ∙ w.if-not-clear.true)
+  | then-not-bounded-via-then-not-bounded w ↦
+      good_unbounded _ c.in-len1-up.len_at_least (sym c.bounded.ensures ∙ w.if-not-bounded.true)
+  | then-not-bounded-via-else-not-bounded+then-not-clear w ↦
+      good_unclear _ c.in-len1-up.len_at_least (sym c.bounded.ensures ∙ w.if-not-bounded.false) (sym (w.clear.ensures ∙ all_apart_list _ _) ∙ w.if-not-clear.true)
 ])
 
 pub loop-left-preserved : goal.loop-left-preserved

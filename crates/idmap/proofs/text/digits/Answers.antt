@@ -1,6 +1,5 @@
 -- `idmap::text::digits` meets its contract. Assumes nothing.
-use Rattle.std.proofs.Common.{arith, ◌≡◌, ◌∙◌, ap}
-use Rattle.idmap.specs.Scan.{ended}
+use Rattle.std.proofs.Common.{arith, ◌≡◌, ◌∙◌}
 use Rattle.idmap.proofs.Scans.{number_starts, number_stop, number_over, number_step, number_end, digit_adds}
 use Rattle.idmap.proofs.text.digits.Goals as goal
 

@@ -40,7 +40,7 @@ returns-then-count-eq0 c =
     let inv = c.loop-rest.invariant in
     let end : length c.loop-rest.rest.now ≡ 0 = search rules in
     elim c.then-count-eq0.branch [
-      then-count-eq0-via-then-count-eq0 w ↦ lines_none _ _ _ _ inv.same end inv.few inv.long w.if-count-eq0.true
+      | then-count-eq0-via-then-count-eq0 w ↦ lines_none _ _ _ _ inv.same end inv.few inv.long w.if-count-eq0.true
       | then-count-eq0-via-else-count-eq0+then-not-good w ↦
           lines_bad _ _ _ _ inv.same end inv.few inv.long w.if-count-eq0.false (sym w.if-not-good.ensures)
     ]

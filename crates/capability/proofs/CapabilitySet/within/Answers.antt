@@ -1,0 +1,6 @@
+-- `within` meets its contract. Assumes nothing.
+use Rattle.capability.proofs.Words.{words}
+use Rattle.capability.proofs.CapabilitySet.within.Goals as goal
+
+pub returns : goal.returns
+returns c = search words
