@@ -4,7 +4,6 @@ use Rattle.prelude.specs.Parts.{put_at}
 use Rattle.prelude.specs.Lists.{tab}
 use Rattle.tables.specs.Tables.{tables_of}
 use Rattle.tables.specs.Reply.{Reply, refused, done, child, child_in, new_namespace, yes', no', bytes, id, unmapped, ids, number_of, answered, is_refused}
-use Rattle.credentials.specs.declared.own.OwnIds.{OwnIds}
 use Rattle.tables.specs.declared.answer.Errno.{Errno}
 use Rattle.calls.specs.declared.Response.{Response}
 use Rattle.calls.specs.declared.Response.TheVariants.{Plain, Own}

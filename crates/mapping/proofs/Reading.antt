@@ -10,7 +10,7 @@ use lib.ListN.{length, get_or, take, drop, length-append, length-map}
 use lib.Seq.{drop-append-add, drop-drop, length-take-le, take_all, take-append_seam, take-suc}
 use borrow.Author.Tests.{leb-true, leb-false}
 use Rattle.prelude.proofs.Tests.{by_test}
-use Rattle.prelude.specs.Parts.{fits_at, put_at}
+use Rattle.prelude.specs.Parts.{put_at}
 use Rattle.prelude.proofs.Parts.{fits_inside, fits_outside, put_inside, put_outside, length_put}
 use Rattle.idmap.specs.declared.Line.{Line}
 use Rattle.idmap.specs.Good.{max_lines}

@@ -1,6 +1,6 @@
 -- The write of a map, in the words of the code: the lines that are read, the kernel starts that are made for them, and each
 -- way out. Assumes nothing.
-use Rattle.std.proofs.Common.{◌≡◌, ℕ, ◌+◌, ◌-◌, ◌<◌, ◌≤◌, Bool, true, false, Option, Some, None, Ok, Err, List, [], ◌∷◌, ◌++◌, ◌&&◌, map, length, get_or, take, drop, set, replicate, refl, sym, ap, ◌∙◌, subst, arith, take_all}
+use Rattle.std.proofs.Common.{◌≡◌, ℕ, ◌+◌, ◌-◌, ◌<◌, ◌≤◌, Bool, true, false, Option, Some, None, Ok, Err, List, [], ◌∷◌, ◌++◌, ◌&&◌, map, length, get_or, take, set, replicate, refl, sym, ap, ◌∙◌, subst, arith, take_all}
 use lib.ListN.{length-map}
 use Rattle.std.specs.List.{list_all}
 use Rattle.std.proofs.lemmas.List.{get_or-map}

@@ -19,7 +19,7 @@ use Rattle.tables.specs.declared.answer.Errno.{Errno}
 use Rattle.tables.specs.Reply.{done}
 use Rattle.calls.specs.declared.Response.{Response}
 use Rattle.calls.specs.declared.Response.TheVariants.{Plain}
-use Rattle.calls.specs.Calls.{Step, answer_by, call_reply, plain_of, CallPromise}
+use Rattle.calls.specs.Calls.{Step, answer_by, CallPromise}
 use Rattle.journal.specs.Numbers.{number_at}
 use Rattle.journal.specs.declared.read.Stopped.{Stopped}
 use Rattle.journal.specs.declared.read.Record.{Record}

@@ -1,5 +1,5 @@
 -- `replay_step::step` meets its contract. Assumes nothing.
-use Rattle.std.proofs.Common.{◌≡◌, Some, None, Ok, Err, ◌∙◌, sym, ap, rules}
+use Rattle.std.proofs.Common.{◌≡◌, None, Ok, Err, ◌∙◌, sym, ap, rules}
 use Rattle.replay_step.proofs.Steps.{found_both, found_made, end_made, stop_made}
 use Rattle.replay_step.proofs.step.Goals as goal
 

@@ -1,5 +1,5 @@
 -- `mapping::read::put_lines` meets its contract. Assumes nothing.
-use Rattle.std.proofs.Common.{arith, rules}
+use Rattle.std.proofs.Common.{arith}
 use Rattle.mapping.proofs.Reading.{lines_start, lines_step, lines_end}
 use Rattle.mapping.proofs.read.put_lines.Goals as goal
 

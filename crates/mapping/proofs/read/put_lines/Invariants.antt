@@ -1,5 +1,4 @@
 -- `mapping::read::put_lines`: the first `i` lines are in place.
-use Rattle.std.proofs.Common.{◌≡◌}
 use Rattle.tables.specs.Tables.{tables_of}
 use Rattle.hierarchy.specs.KernelStarts.{by_kernel_starts}
 use Rattle.mapping.proofs.Reading.{Stored}
