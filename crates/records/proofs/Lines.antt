@@ -1,7 +1,7 @@
 -- The written lines of a map, read where their words stand. Assumes nothing.
 use Prim.Native.Nat.{ℕ, zero, suc, ◌+◌, ◌*◌, ◌≤◌, ◌<◌, min}
 use mathlib.Core.Path.{◌≡◌, refl, sym, ap, ap₂, ◌∙◌}
-use mathlib.Core.List.{List, ◌∷◌, ◌++◌, zip_with}
+use mathlib.Core.List.{List, [], ◌∷◌, ◌++◌, zip_with}
 use native.Mathlib.Nat.{suc-mul}
 use native.Mathlib.Omega.{arith}
 use lib.ListN.{length, get_or, take, drop}
@@ -102,8 +102,8 @@ module _ (ws r : List ℕ) (long : length ws ≡ map_width) where
 pub lines_whole : (ws r : List ℕ) → length ws ≡ map_width → LinesOf r (map_of ws) (starts_in ws) → LinesOf r (map_from ws) (starts_from ws)
 lines_whole ws r h e = record { written = e.written ∙ ap lines_of (sym (map_whole ws h)); kernel = e.kernel ∙ sym (λ i. on_kernels (lines_of (map_whole ws h i)) (starts_whole ws h i)) }
 
-pub lines_other : (ws r : List ℕ) → (length ws ≡ map_width → ⊥) → r ≡ part 0 0 ws → LinesOf r (map_from ws) (starts_from ws)
-unfolding part lines_by zip_with
-lines_other ws r h e = record { written = ap lines_in e ∙ ap lines_of (sym (map_other ws h)); kernel = ap kernel_lines_in e ∙ sym (λ i. on_kernels (lines_of (map_other ws h i)) (starts_from ws)) }
+pub lines_other : (ws : List ℕ) → (length ws ≡ map_width → ⊥) → LinesOf [] (map_from ws) (starts_from ws)
+unfolding lines_by zip_with
+lines_other ws h = record { written = ap lines_of (sym (map_other ws h)); kernel = sym (λ i. on_kernels (lines_of (map_other ws h i)) (starts_from ws)) }
 
 pub ruleset lines = (written_some, written_none, lines_whole, lines_other, rules)

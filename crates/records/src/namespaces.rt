@@ -1,5 +1,5 @@
 // A namespace and its row of words, and the words of a map in it.
-ghost use Rattle.std.specs.Prelude.{◌≡◌, ◌+◌, ◌*◌, ◌<◌, length};
+ghost use Rattle.std.specs.Prelude.{◌≡◌, ◌+◌, ◌*◌, ◌<◌, ◌≤◌, take, drop, length};
 ghost use Rattle.idmap.specs.Good.{max_lines};
 ghost use Rattle.idmap.specs.Line.{line_words, inside_column, parent_column, kernel_column, line_of, line_at};
 ghost use Rattle.records.specs.Records.{low_at, starts_in, starts_from, Cleared, unmapped, state_of, first_line_at, map_width, map_at, map_of, map_from, LinesOf, free_map, free_namespace, namespace_width, namespace_of, namespace_from};
@@ -62,8 +62,8 @@ fn state_of(tag: u64, n: u64) -> Option<usize>
 }
 
 // Line `i` of a map's words, as it was written.
-fn line_of(words: &[u64], i: usize) -> Line
-    requires { (i < max_lines) × (length words.now ≡ map_width) }
+fn line_of(words: &[u64; MAP_WIDTH], i: usize) -> Line
+    requires { i < max_lines }
     ensures { result ≡ line_at inside_column parent_column words.now (first_line_at + line_words * i) }
 {
     let at = LINES + LINE_WORDS * i;
@@ -75,8 +75,7 @@ fn line_of(words: &[u64], i: usize) -> Line
 }
 
 // The map that a map's words hold.
-fn map_of(words: &[u64]) -> IdMap
-    requires { length words.now ≡ map_width }
+fn map_of(words: &[u64; MAP_WIDTH]) -> IdMap
     ensures { result ≡ map_of words.now }
 {
     IdMap {
@@ -140,9 +139,16 @@ pub fn map_words(m: IdMap, kernel: [u32; MAX_LINES]) -> [u64; MAP_WIDTH]
     ]
 }
 
+// The words of a map in a namespace's row.
+fn map_part(row: &[u64; NAMESPACE_WIDTH], at: usize) -> &[u64; MAP_WIDTH]
+    requires { at + map_width ≤ namespace_width }
+    ensures { result.now ≡ take map_width (drop at row.now) }
+{
+    <&[u64; MAP_WIDTH]>::try_from(&row[at..at + MAP_WIDTH]).unwrap()
+}
+
 // The record of a whole row.
-fn read_namespace(row: &[u64]) -> Namespace
-    requires { length row.now ≡ namespace_width }
+fn read_namespace(row: &[u64; NAMESPACE_WIDTH]) -> Namespace
     ensures { result ≡ namespace_of row.now }
 {
     Namespace {
@@ -150,8 +156,8 @@ fn read_namespace(row: &[u64]) -> Namespace
         parent: row[PARENT],
         level: row[LEVEL],
         owner: low(row[OWNER]),
-        users: map_of(&row[USER_MAP..GROUP_MAP]),
-        groups: map_of(&row[GROUP_MAP..DENY]),
+        users: map_of(map_part(row, USER_MAP)),
+        groups: map_of(map_part(row, GROUP_MAP)),
         deny: row[DENY] == 1,
     }
 }
@@ -200,16 +206,14 @@ pub fn free_namespace() -> Namespace
 pub fn namespace_of(row: &[u64]) -> Namespace
     ensures { result ≡ namespace_from row.now }
 {
-    if row.len() == NAMESPACE_WIDTH {
-        read_namespace(row)
-    } else {
-        free_namespace()
+    match <&[u64; NAMESPACE_WIDTH]>::try_from(row) {
+        Ok(row) => read_namespace(row),
+        Err(_) => free_namespace(),
     }
 }
 
 // The words of the lines that a map's words hold, if it is written.
-fn written_lines(words: &[u64]) -> &[u64]
-    requires { length words.now ≡ map_width }
+fn written_lines(words: &[u64; MAP_WIDTH]) -> &[u64]
     ensures { LinesOf result.now (map_of words.now) (starts_in words.now) }
 {
     if words[STATE] == WRITTEN {
@@ -224,9 +228,8 @@ fn written_lines(words: &[u64]) -> &[u64]
 pub fn lines_of(words: &[u64]) -> &[u64]
     ensures { LinesOf result.now (map_from words.now) (starts_from words.now) }
 {
-    if words.len() == MAP_WIDTH {
-        written_lines(words)
-    } else {
-        rows::get(words, 0, 0)
+    match <&[u64; MAP_WIDTH]>::try_from(words) {
+        Ok(words) => written_lines(words),
+        Err(_) => &[],
     }
 }

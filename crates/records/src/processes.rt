@@ -28,8 +28,7 @@ const EFFECTIVE: usize = PERMITTED + 1;
 pub const PROCESS_WIDTH: usize = EFFECTIVE + 1;
 
 // The record of a whole row. IDs are kept in the low 32 bits of their words.
-fn read_process(row: &[u64]) -> Process
-    requires { length row.now ≡ process_width }
+fn read_process(row: &[u64; PROCESS_WIDTH]) -> Process
     ensures { result ≡ process_of row.now }
 {
     Process {
@@ -141,9 +140,8 @@ pub fn free_process() -> Process
 pub fn process_of(row: &[u64]) -> Process
     ensures { result ≡ process_from row.now }
 {
-    if row.len() == PROCESS_WIDTH {
-        read_process(row)
-    } else {
-        free_process()
+    match <&[u64; PROCESS_WIDTH]>::try_from(row) {
+        Ok(row) => read_process(row),
+        Err(_) => free_process(),
     }
 }

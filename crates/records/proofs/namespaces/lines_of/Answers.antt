@@ -2,8 +2,8 @@
 use Rattle.records.proofs.Lines.{lines}
 use Rattle.records.proofs.namespaces.lines_of.Goals as goal
 
-pub returns-then-words-eq-MAP_WIDTH : goal.returns-then-words-eq-MAP_WIDTH
-returns-then-words-eq-MAP_WIDTH c = search lines
+pub returns-in-Ok : goal.returns-in-Ok
+returns-in-Ok c = search lines
 
-pub returns-else-words-eq-MAP_WIDTH : goal.returns-else-words-eq-MAP_WIDTH
-returns-else-words-eq-MAP_WIDTH c = search lines
+pub returns-in-Err : goal.returns-in-Err
+returns-in-Err c = search lines
