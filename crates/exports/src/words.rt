@@ -1,28 +1,15 @@
 // What stands at an offset of a journal, as words.
 ghost use Rattle.std.specs.Prelude.{◌≡◌};
 ghost use Rattle.replay_step.specs.Replay.{read_in};
-ghost use Rattle.exports.specs.Replay.{stop_number, found_words, plain_words, read_words};
+ghost use Rattle.exports.specs.Replay.{found_words, plain_words, read_words};
 
 use journal::layout;
-use journal::read::{Record, Stop, Stopped};
+use journal::read::{Record, Stopped};
 use replay_step::Replayed;
 
 // The words of what stands at an offset: what it is, three names, three other numbers, where these end and the call's
 // text or list starts, the bytes of the one, the IDs of the other, an offset, and the new namespace of a clone.
 pub const RECORD_WORDS: usize = 12;
-
-// The number of a stop's reason.
-fn stop_number(why: Stop) -> u64
-    ensures { result ≡ stop_number why }
-{
-    match why {
-        Stop::Version => 1,
-        Stop::Cut => 2,
-        Stop::Short => 3,
-        Stop::UnknownCall => 4,
-        Stop::Leftover => 5,
-    }
-}
 
 // The words where there is no call: what there is, and its offset.
 fn plain_words(what: u64, offset: usize) -> [u64; RECORD_WORDS]
@@ -65,6 +52,6 @@ pub(crate) fn words_of(
     match step {
         Ok(Some(r)) => found_words(r.record, namespace),
         Ok(None) => plain_words(0, at),
-        Err(s) => plain_words(stop_number(s.why), s.at),
+        Err(s) => plain_words(s.why as u64, s.at),
     }
 }

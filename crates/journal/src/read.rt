@@ -9,19 +9,19 @@ use crate::numbers::{name_at, number_at};
 use crate::{MAX_IDS, NAME_BYTES, NUMBER_BYTES, SIZE_BYTES, VERSION, layout, numbers};
 use calls::Call;
 
-// Why the reading of a journal stops.
+// Why the reading of a journal stops, with the numbers that programs in other languages are told.
 #[derive(Clone, Copy)]
 pub enum Stop {
     // The journal is empty or begins with another byte than the version's.
-    Version,
+    Version = 1,
     // The journal ends within the record.
-    Cut,
+    Cut = 2,
     // The record is too short for its call.
-    Short,
+    Short = 3,
     // No call has the call byte.
-    UnknownCall,
+    UnknownCall = 4,
     // Bytes are left after the record's last argument.
-    Leftover,
+    Leftover = 5,
 }
 
 // A call, where its text or its list starts, how many bytes the one and IDs the other has, how long its buffer is, and
