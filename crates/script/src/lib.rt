@@ -2,8 +2,8 @@
 #![tactic(auto)]
 
 pub mod answers;
-mod commands;
+mod forms;
+pub mod input;
 pub mod lines;
-pub mod output;
 mod texts;
-mod tokens;
+mod words;
