@@ -5,5 +5,6 @@ pub mod answers;
 mod forms;
 pub mod input;
 pub mod lines;
+pub mod output;
 mod texts;
 mod words;

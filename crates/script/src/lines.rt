@@ -1,4 +1,6 @@
 // A line of a script: what it is, with what it lends to its call.
+ghost use Rattle.std.specs.Prelude.{◌≤◌};
+
 use crate::words::{Words, number};
 use crate::{forms, texts};
 use arrayvec::{ArrayVec, CapacityError};
@@ -35,13 +37,20 @@ impl<T: Drop> From<CapacityError<T>> for Malformed {
     }
 }
 
+// How long the buffer of a read is.
+#[derive(Clone, Copy)]
+pub struct BufferLength {
+    pub bytes: usize,
+    pub ghost bounded: { bytes ≤ 65536 },
+}
+
 // What a line lends to its call: a text and a list, which are empty where it has none, and how long the buffer of a read
 // is.
 #[derive(Clone, Copy)]
 pub struct Lent<'a> {
     pub text: &'a [u8],
     pub list: &'a [u32],
-    pub buffer: Option<usize>,
+    pub buffer: Option<BufferLength>,
 }
 
 // What a line is: nothing to do, a fresh start, or a call.
@@ -88,7 +97,9 @@ fn numbers_line(word: &[u8], words: Words<'_>) -> Result<Line<'static>, Malforme
     let lent = Lent {
         text: &[],
         list: &[],
-        buffer: Some(length as usize),
+        buffer: Some(BufferLength {
+            bytes: length as usize,
+        }),
     };
     Ok(Line::Call(call, lent))
 }
