@@ -93,6 +93,15 @@ impl fmt::Display for Answered {
     }
 }
 
+// The text that a read put into its buffer, if the answer is one of a read.
+// until the lower crates answer so
+pub fn text_read(response: Response, buffer: &[u8]) -> Option<&[u8]> {
+    match response.answer {
+        CallAnswer::Plain(Answer::Length(length)) => buffer.get(..length),
+        _ => None,
+    }
+}
+
 // A text in quotes, with its escapes.
 #[derive(Clone, Copy)]
 pub struct Quoted<'a>(pub &'a [u8]);

@@ -1,0 +1,70 @@
+// What ends a journal before its script ends.
+ghost use Rattle.std.specs.Prelude.{◌≤◌, IfOk};
+
+use calls::Call;
+use journal::MAX_RECORD;
+use journal::write::Written;
+use script::answers::Refused;
+use script::lines::Malformed;
+use std::{fmt, io};
+use tables::answer::Errno;
+
+// Why a line has no record.
+#[derive(Clone, Copy)]
+pub enum Stop {
+    Malformed,
+    Fresh,
+    Refused(Errno),
+}
+
+impl From<Malformed> for Stop {
+    fn from(_line: Malformed) -> Stop {
+        Stop::Malformed
+    }
+}
+
+impl From<Errno> for Stop {
+    fn from(e: Errno) -> Stop {
+        Stop::Refused(e)
+    }
+}
+
+impl fmt::Display for Stop {
+    fn fmt<W: fmt::Write>(&self, f: &mut fmt::Formatter<W>) -> fmt::Result {
+        match self {
+            Stop::Malformed => f.write_str("malformed"),
+            Stop::Fresh => f.write_str("fresh, but a journal starts fresh"),
+            Stop::Refused(e) => write!(f, "{}", Refused(*e)),
+        }
+    }
+}
+
+// A stream that failed, or a line that has no record, by its number.
+#[derive(Drop)]
+pub enum Ended {
+    Failed(io::Error),
+    AtLine(u64, Stop),
+}
+
+impl From<io::Error> for Ended {
+    fn from(error: io::Error) -> Ended {
+        Ended::Failed(error)
+    }
+}
+
+// Writes the record of a call, and answers how many bytes it has.
+// until the lower crates answer so: a Result
+pub fn write_record(
+    call: Call,
+    text: &[u8],
+    list: &[u32],
+    buffer_length: u64,
+    record: &mut [u8; MAX_RECORD],
+) -> Result<usize, Stop>
+    ensures { IfOk result (λ n. n ≤ 65537) }
+{
+    match journal::write::write_record(call, text, list, buffer_length, record, 0) {
+        Written::Length(n) => Ok(n),
+        Written::Refused(e) => Err(Stop::from(e)),
+    }
+}
