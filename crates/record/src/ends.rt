@@ -52,18 +52,19 @@ impl From<io::Error> for Ended {
     }
 }
 
-// Writes the record of a call, and answers how many bytes it has.
+// Writes the record of a call into a room for the longest, and answers how many bytes it has.
 // until the lower crates answer so: a Result
+#[tactic(auto, unfolding(journal::specs::Journal::write_of))]
 pub fn write_record(
     call: Call,
     text: &[u8],
     list: &[u32],
     buffer_length: u64,
-    record: &mut [u8; MAX_RECORD],
+    room: &mut [u8; MAX_RECORD],
 ) -> Result<usize, Stop>
     ensures { IfOk result (λ n. n ≤ 65537) }
 {
-    match journal::write::write_record(call, text, list, buffer_length, record, 0) {
+    match journal::write::write_record(call, text, list, buffer_length, room, 0) {
         Written::Length(n) => Ok(n),
         Written::Refused(e) => Err(Stop::from(e)),
     }

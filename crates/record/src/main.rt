@@ -2,6 +2,8 @@
 // forms. A line that has no record ends the journal, and standard error says which line it is and why.
 #![tactic(auto)]
 
+ghost use Rattle.std.specs.Prelude.{◌≤◌, IfOk};
+
 use crate::ends::{Ended, Stop};
 use journal::{MAX_RECORD, VERSION};
 use script::input::{Lines, serve};
@@ -24,7 +26,9 @@ struct Recorder<W> {
 
 impl<W: Write> Recorder<W> {
     // Makes the record of a line, and answers how many bytes it has, which are none of a blank line and of a comment.
-    fn record(&mut self, line: &[u8]) -> Result<usize, Stop> {
+    fn record(&mut self, line: &[u8]) -> Result<usize, Stop>
+        ensures { IfOk result (λ n. n ≤ 65537) }
+    {
         match self.parser.parse(line)? {
             Line::Blank => Ok(0),
             Line::Fresh => Err(Stop::Fresh),
