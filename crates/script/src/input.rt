@@ -32,6 +32,7 @@ fn take<L: Lines>(
             lines.take_line(line.as_slice())?;
             line.clear();
         } else {
+            // Where there is no room the line is too long already.
             let _ = line.try_push(*b);
         }
     }

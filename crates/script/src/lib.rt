@@ -2,7 +2,7 @@
 #![tactic(auto)]
 
 pub mod answers;
-mod forms;
+mod commands;
 pub mod input;
 pub mod lines;
 pub mod output;

@@ -2,7 +2,7 @@
 ghost use Rattle.std.specs.Prelude.{◌≤◌};
 
 use crate::words::{Words, number};
-use crate::{forms, texts};
+use crate::{commands, texts};
 use arrayvec::{ArrayVec, CapacityError};
 use calls::Call;
 use std::num::TryFromIntError;
@@ -44,6 +44,20 @@ pub struct BufferLength {
     pub ghost bounded: { bytes ≤ 65536 },
 }
 
+impl TryFrom<u64> for BufferLength {
+    type Error = Malformed;
+
+    fn try_from(length: u64) -> Result<BufferLength, Malformed> {
+        if length <= MAX_BUFFER as u64 {
+            Ok(BufferLength {
+                bytes: length as usize,
+            })
+        } else {
+            Err(Malformed)
+        }
+    }
+}
+
 // What a line lends to its call: a text and a list, which are empty where it has none, and how long the buffer of a read
 // is.
 #[derive(Clone, Copy)]
@@ -52,6 +66,12 @@ pub struct Lent<'a> {
     pub list: &'a [u32],
     pub buffer: Option<BufferLength>,
 }
+
+const NOTHING: Lent<'static> = Lent {
+    text: &[],
+    list: &[],
+    buffer: None,
+};
 
 // What a line is: nothing to do, a fresh start, or a call.
 #[derive(Clone, Copy)]
@@ -87,28 +107,16 @@ fn read_numbers(words: Words<'_>) -> Result<ArrayVec<u64, MAX_NUMBERS>, Malforme
 fn numbers_line(word: &[u8], words: Words<'_>) -> Result<Line<'static>, Malformed> {
     let numbers = read_numbers(words)?;
     let numbers = numbers.as_slice();
-    if let Some(call) = forms::plain_call(word, numbers) {
+    if let Some(call) = commands::plain_call(word, numbers) {
         return Ok(Line::Call(call, NOTHING));
     }
-    let (call, length) = forms::read_call(word, numbers).ok_or(Malformed)?;
-    if length > MAX_BUFFER as u64 {
-        return Err(Malformed);
-    }
+    let (call, length) = commands::read_call(word, numbers).ok_or(Malformed)?;
     let lent = Lent {
-        text: &[],
-        list: &[],
-        buffer: Some(BufferLength {
-            bytes: length as usize,
-        }),
+        buffer: Some(BufferLength::try_from(length)?),
+        ..NOTHING
     };
     Ok(Line::Call(call, lent))
 }
-
-const NOTHING: Lent<'static> = Lent {
-    text: &[],
-    list: &[],
-    buffer: None,
-};
 
 fn fresh_line(mut words: Words<'_>) -> Result<Line<'static>, Malformed> {
     match words.next() {
@@ -140,12 +148,11 @@ impl Parser {
         quoted: &[u8],
     ) -> Result<Line<'_>, Malformed> {
         let numbers = read_numbers(words)?;
-        let call = forms::write_call(word, numbers.as_slice()).ok_or(Malformed)?;
+        let call = commands::write_call(word, numbers.as_slice()).ok_or(Malformed)?;
         texts::read_text(quoted, &mut self.text)?;
         let lent = Lent {
             text: self.text.as_slice(),
-            list: &[],
-            buffer: None,
+            ..NOTHING
         };
         Ok(Line::Call(call, lent))
     }
@@ -159,9 +166,8 @@ impl Parser {
             self.list.try_push(id)?;
         }
         let lent = Lent {
-            text: &[],
             list: self.list.as_slice(),
-            buffer: None,
+            ..NOTHING
         };
         Ok(Line::Call(Call::SetGroups(caller), lent))
     }

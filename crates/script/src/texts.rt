@@ -7,7 +7,7 @@ use arrayvec::ArrayVec;
 
 // The byte that two hexadecimal digits give.
 fn by_number(high: u8, low: u8) -> Result<u8, Malformed> {
-    let n = in_base(&[high, low], 16)?;
+    let n = in_base(&[high, low], 16).ok_or(Malformed)?;
     Ok(u8::try_from(n)?)
 }
 

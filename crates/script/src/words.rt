@@ -24,28 +24,26 @@ impl<'a> Iterator for Words<'a> {
     }
 }
 
-// The number that digits of a base give, of which there is at least one.
-pub(crate) fn in_base(digits: &[u8], base: u32) -> Result<u64, Malformed>
+// The number that digits of a base give, of which there is at least one, if it fits in 64 bits.
+pub(crate) fn in_base(digits: &[u8], base: u32) -> Option<u64>
     requires { (2 ≤ base) × (base ≤ 36) }
 {
     if digits.is_empty() {
-        return Err(Malformed);
+        return None;
     }
-    let mut value: u64 = 0;
-    for b in digits {
-        let digit = char::from(*b).to_digit(base).ok_or(Malformed)?;
-        value = value
-            .checked_mul(u64::from(base))
-            .and_then(|v| v.checked_add(u64::from(digit)))
-            .ok_or(Malformed)?;
-    }
-    Ok(value)
+    digits.iter().try_fold(0u64, |value, b| {
+        let digit = char::from(*b).to_digit(base)?;
+        value
+            .checked_mul(u64::from(base))?
+            .checked_add(u64::from(digit))
+    })
 }
 
 // A number is decimal, or hexadecimal after 0x, and fits in 64 bits.
 pub fn number(word: &[u8]) -> Result<u64, Malformed> {
-    match word {
+    let value = match word {
         [b'0', b'x', digits @ ..] => in_base(digits, 16),
         digits => in_base(digits, 10),
-    }
+    };
+    value.ok_or(Malformed)
 }
