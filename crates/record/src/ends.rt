@@ -1,9 +1,4 @@
 // What ends a journal before its script ends.
-ghost use Rattle.std.specs.Prelude.{◌≤◌, IfOk};
-
-use calls::Call;
-use journal::MAX_RECORD;
-use journal::write::Written;
 use script::answers::Refused;
 use script::lines::Malformed;
 use std::{fmt, io};
@@ -49,23 +44,5 @@ pub enum Ended {
 impl From<io::Error> for Ended {
     fn from(error: io::Error) -> Ended {
         Ended::Failed(error)
-    }
-}
-
-// Writes the record of a call into a room for the longest, and answers how many bytes it has.
-// until the lower crates answer so: a Result
-#[tactic(auto, unfolding(journal::specs::Journal::write_of))]
-pub fn write_record(
-    call: Call,
-    text: &[u8],
-    list: &[u32],
-    buffer_length: u64,
-    room: &mut [u8; MAX_RECORD],
-) -> Result<usize, Stop>
-    ensures { IfOk result (λ n. n ≤ 65537) }
-{
-    match journal::write::write_record(call, text, list, buffer_length, room, 0) {
-        Written::Length(n) => Ok(n),
-        Written::Refused(e) => Err(Stop::from(e)),
     }
 }

@@ -5,6 +5,8 @@
 ghost use Rattle.std.specs.Prelude.{◌≤◌, IfOk};
 
 use crate::ends::{Ended, Stop};
+use calls::Call;
+use journal::write::Written;
 use journal::{MAX_RECORD, VERSION};
 use script::input::{Lines, serve};
 use script::lines::{Line, Parser};
@@ -13,6 +15,24 @@ use std::io;
 use std::io::Write;
 
 mod ends;
+
+// Writes the record of a call into a room for the longest, and answers how many bytes it has.
+// until the lower crates answer so: a Result
+#[tactic(auto, unfolding(journal::specs::Journal::write_of))]
+fn write_record(
+    call: Call,
+    text: &[u8],
+    list: &[u32],
+    buffer_length: u64,
+    room: &mut [u8; MAX_RECORD],
+) -> Result<usize, Stop>
+    ensures { IfOk result (λ n. n ≤ 65537) }
+{
+    match journal::write::write_record(call, text, list, buffer_length, room, 0) {
+        Written::Length(n) => Ok(n),
+        Written::Refused(e) => Err(Stop::from(e)),
+    }
+}
 
 // Turns lines into records.
 #[derive(Drop)]
@@ -34,7 +54,7 @@ impl<W: Write> Recorder<W> {
             Line::Fresh => Err(Stop::Fresh),
             Line::Call(call, lent) => {
                 let length = lent.buffer.map_or(0, |length| length.bytes as u64);
-                ends::write_record(call, lent.text, lent.list, length, &mut self.record)
+                write_record(call, lent.text, lent.list, length, &mut self.record)
             }
         }
     }
@@ -45,10 +65,8 @@ impl<W: Write> Lines for Recorder<W> {
 
     fn take_line(&mut self, line: &[u8]) -> Result<(), Ended> {
         let number = self.number;
-        match self.record(line) {
-            Ok(n) => self.out.write_all(&self.record[..n])?,
-            Err(why) => return Err(Ended::AtLine(number, why)),
-        }
+        let n = self.record(line).map_err(|why| Ended::AtLine(number, why))?;
+        self.out.write_all(&self.record[..n])?;
         self.number = number.wrapping_add(1);
         Ok(())
     }

@@ -106,11 +106,10 @@ fn read_numbers(words: Words<'_>) -> Result<ArrayVec<u64, MAX_NUMBERS>, Malforme
 // A line of a call whose arguments are numbers.
 fn numbers_line(word: &[u8], words: Words<'_>) -> Result<Line<'static>, Malformed> {
     let numbers = read_numbers(words)?;
-    let numbers = numbers.as_slice();
-    if let Some(call) = commands::plain_call(word, numbers) {
+    if let Some(call) = commands::plain_call(word, numbers.as_slice()) {
         return Ok(Line::Call(call, NOTHING));
     }
-    let (call, length) = commands::read_call(word, numbers).ok_or(Malformed)?;
+    let (call, length) = commands::read_call(word, numbers.as_slice()).ok_or(Malformed)?;
     let lent = Lent {
         buffer: Some(BufferLength::try_from(length)?),
         ..NOTHING

@@ -21,7 +21,8 @@ impl<W: Write> Output<W> {
         }
     }
 
-    // Writes what is gathered, and then bytes that do not fit behind it.
+    // Writes what is gathered, and then bytes that do not fit behind it. It stands apart so that the test for room is
+    // inlined.
     #[cold]
     #[inline(never)]
     fn write_behind(&mut self, bytes: &[u8]) -> io::Result<()> {
