@@ -106,22 +106,40 @@ pub fn text_read(response: Response, buffer: &[u8]) -> Option<&[u8]> {
 #[derive(Clone, Copy)]
 pub struct Quoted<'a>(pub &'a [u8]);
 
+// Whether a byte of a text is printed as it is.
+fn is_plain(b: u8) -> bool {
+    matches!(b, b' '..=b'~') && !matches!(b, b'"' | b'\\')
+}
+
 fn write_escaped<W: fmt::Write>(f: &mut fmt::Formatter<W>, b: u8) -> fmt::Result {
     match b {
         b'\n' => f.write_str("\\n"),
         b'\t' => f.write_str("\\t"),
         b'"' => f.write_str("\\\""),
         b'\\' => f.write_str("\\\\"),
-        32..=126 => f.write_char(char::from(b)),
+        b' '..=b'~' => f.write_char(char::from(b)),
         _ => write!(f, "\\x{b:02x}"),
+    }
+}
+
+// Writes plain bytes, or one that is not. The plain ones are written as one text, since one by one takes twice as long.
+fn write_part<W: fmt::Write>(f: &mut fmt::Formatter<W>, part: &[u8]) -> fmt::Result {
+    match (part, str::from_utf8(part)) {
+        ([_, _, ..], Ok(plain)) => f.write_str(plain),
+        _ => {
+            for b in part {
+                write_escaped(f, *b)?;
+            }
+            Ok(())
+        }
     }
 }
 
 impl fmt::Display for Quoted<'_> {
     fn fmt<W: fmt::Write>(&self, f: &mut fmt::Formatter<W>) -> fmt::Result {
         f.write_str("\"")?;
-        for b in self.0 {
-            write_escaped(f, *b)?;
+        for part in self.0.chunk_by(|a, b| is_plain(*a) && is_plain(*b)) {
+            write_part(f, part)?;
         }
         f.write_str("\"")
     }
