@@ -28,8 +28,8 @@ impl<W: Write> Host<'_, W> {
         } = self;
         let buffer = &mut buffer[..length.bytes];
         buffer.fill(b'.');
-        let response = calls::answer(tables, call, b"", &[], buffer);
-        writeln!(out, "{} {}", Answered(response), Quoted(buffer))
+        let answer = calls::answer(tables, call, b"", &[], buffer);
+        writeln!(out, "{} {}", Answered(answer), Quoted(buffer))
     }
 
     // Makes a call with what is lent to it.
@@ -37,8 +37,8 @@ impl<W: Write> Host<'_, W> {
         if let Some(length) = lent.buffer {
             return self.read(call, length);
         }
-        let response = calls::answer(self.tables, call, lent.text, lent.list, &mut []);
-        writeln!(self.out, "{}", Answered(response))
+        let answer = calls::answer(self.tables, call, lent.text, lent.list, &mut []);
+        writeln!(self.out, "{}", Answered(answer))
     }
 
     fn fresh(&mut self) -> io::Result<()> {

@@ -3,7 +3,7 @@
 #![tactic(auto)]
 
 use idmap::Line;
-use idmap::text::Parsed;
+use idmap::text::parse_map;
 use std::io;
 use std::io::Write;
 
@@ -34,14 +34,8 @@ fn print_lines<W: Write>(to: &mut W, lines: &[Line]) -> io::Result<()> {
 
 fn show<W: Write>(to: &mut W, text: &[u8]) -> io::Result<()> {
     print_quoted(to, text)?;
-    // until the lower crates answer so: an Option
-    let read = idmap::text::parse_map(text);
-    let lines = match read.parsed {
-        Parsed::Lines(n) => read.lines.get(..n),
-        Parsed::Bad => None,
-    };
-    match lines {
-        Some(lines) => print_lines(to, lines),
+    match parse_map(text) {
+        Some(lines) => print_lines(to, lines.as_slice()),
         None => to.write_all(b"bad\n"),
     }
 }

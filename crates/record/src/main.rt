@@ -5,8 +5,7 @@
 ghost use Rattle.std.specs.Prelude.{◌≤◌, IfOk};
 
 use crate::ends::{Ended, Stop};
-use calls::Call;
-use journal::write::Written;
+use journal::write::{Beside, write_record};
 use journal::{MAX_RECORD, VERSION};
 use script::input::{Lines, serve};
 use script::lines::{Line, Parser};
@@ -15,24 +14,6 @@ use std::io;
 use std::io::Write;
 
 mod ends;
-
-// Writes the record of a call into a room for the longest, and answers how many bytes it has.
-// until the lower crates answer so: a Result
-#[tactic(auto, unfolding(journal::specs::Journal::write_of))]
-fn write_record(
-    call: Call,
-    text: &[u8],
-    list: &[u32],
-    buffer_length: u64,
-    room: &mut [u8; MAX_RECORD],
-) -> Result<usize, Stop>
-    ensures { IfOk result (λ n. n ≤ 65537) }
-{
-    match journal::write::write_record(call, text, list, buffer_length, room, 0) {
-        Written::Length(n) => Ok(n),
-        Written::Refused(e) => Err(Stop::from(e)),
-    }
-}
 
 // Turns lines into records.
 #[derive(Drop)]
@@ -46,6 +27,7 @@ struct Recorder<W> {
 
 impl<W: Write> Recorder<W> {
     // Makes the record of a line, and answers how many bytes it has, which are none of a blank line and of a comment.
+    #[tactic(auto, unfolding(journal::specs::Journal::write_of))]
     fn record(&mut self, line: &[u8]) -> Result<usize, Stop>
         ensures { IfOk result (λ n. n ≤ 65537) }
     {
@@ -53,8 +35,12 @@ impl<W: Write> Recorder<W> {
             Line::Blank => Ok(0),
             Line::Fresh => Err(Stop::Fresh),
             Line::Call(call, lent) => {
-                let length = lent.buffer.map_or(0, |length| length.bytes as u64);
-                write_record(call, lent.text, lent.list, length, &mut self.record)
+                let beside = Beside {
+                    text: lent.text,
+                    list: lent.list,
+                    buffer_length: lent.buffer.map_or(0, |length| length.bytes as u64),
+                };
+                Ok(write_record(call, &beside, &mut self.record, 0)?)
             }
         }
     }

@@ -1,19 +1,20 @@
 // Makes the calls of a journal on standard input and prints each answer: docs/journal.md has both forms.
 #![tactic(auto)]
 
-use crate::steps::{Stopped, step};
+use crate::stops::Why;
 use crate::window::Window;
 use calls::Response;
 use journal::MAX_IDS;
-use journal::read::Stop;
-use replay_step::MAX_READ;
+use journal::read::{Stop, Stopped};
+use replay_step::{MAX_READ, step};
 use script::answers::{Answered, Quoted, text_read};
 use script::output::Output;
 use std::io;
 use std::io::{Read, Write};
+use tables::answer::Errno;
 use tables::{TABLES_WIDTH, Tables};
 
-mod steps;
+mod stops;
 mod window;
 
 // The tables that calls are made on, the journal, what is lent to its calls, and where answers go.
@@ -28,10 +29,10 @@ struct Replay<'a, W> {
 
 impl<W: Write> Replay<'_, W> {
     // Prints the answer of a call: of a read with the bytes that it read after it.
-    fn print(&mut self, response: Response) -> io::Result<()> {
-        match text_read(response, &self.buffer) {
-            Some(text) => writeln!(self.out, "{} {}", Answered(response), Quoted(text)),
-            None => writeln!(self.out, "{}", Answered(response)),
+    fn print(&mut self, answer: Result<Response, Errno>) -> io::Result<()> {
+        match text_read(answer, &self.buffer) {
+            Some(text) => writeln!(self.out, "{} {}", Answered(answer), Quoted(text)),
+            None => writeln!(self.out, "{}", Answered(answer)),
         }
     }
 
@@ -45,9 +46,9 @@ impl<W: Write> Replay<'_, W> {
                 &mut self.list,
                 &mut self.buffer,
             ) {
-                Ok(Some((record, response))) => {
-                    self.print(response)?;
-                    self.window.at = record.next;
+                Ok(Some(replayed)) => {
+                    self.print(replayed.answer)?;
+                    self.window.at = replayed.record.next;
                 }
                 Ok(None) => return Ok(None),
                 Err(stopped) => return Ok(Some(stopped)),
@@ -84,7 +85,7 @@ fn main(rt: HostRuntime) -> io::Result<()> {
     };
     if let Some(stopped) = replay.serve(&mut rt.stdin())? {
         let offset = replay.window.offset(stopped.at);
-        writeln!(replay.out, "stopped at {offset}: {stopped}")?;
+        writeln!(replay.out, "stopped at {offset}: {}", Why(stopped.why))?;
         replay.out.flush()?;
     }
     Ok(())

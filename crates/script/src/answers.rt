@@ -1,5 +1,5 @@
 // Answers as text.
-use calls::{CallAnswer, Response};
+use calls::Response;
 use credentials::own::OwnIds;
 use records::Ids;
 use std::fmt;
@@ -11,7 +11,6 @@ pub struct Refused(pub Errno);
 
 impl fmt::Display for Refused {
     fn fmt<W: fmt::Write>(&self, f: &mut fmt::Formatter<W>) -> fmt::Result {
-        // until the lower crates answer so: write!(f, "refused {} {:?}", self.0 as u64, self.0)
         let words = match self.0 {
             Errno::EPERM => "refused 1 EPERM",
             Errno::ESRCH => "refused 3 ESRCH",
@@ -68,18 +67,13 @@ impl fmt::Display for Own {
     }
 }
 
-// What a call answers.
+// An answer that is no refusal and no own IDs.
 #[derive(Clone, Copy)]
-pub struct Answered(pub Response);
+struct Plain(Answer);
 
-impl fmt::Display for Answered {
-    // until the lower crates answer so
+impl fmt::Display for Plain {
     fn fmt<W: fmt::Write>(&self, f: &mut fmt::Formatter<W>) -> fmt::Result {
-        let CallAnswer::Plain(answer) = self.0.answer else {
-            return write!(f, "{}", Own(self.0.ids));
-        };
-        match answer {
-            Answer::Refused(e) => write!(f, "{}", Refused(e)),
+        match self.0 {
             Answer::Done => f.write_str("done"),
             Answer::Child(process) => write!(f, "child {process}"),
             Answer::ChildIn(process, name) => write!(f, "child {process} namespace {name}"),
@@ -93,11 +87,24 @@ impl fmt::Display for Answered {
     }
 }
 
+// What a call answers.
+#[derive(Clone, Copy)]
+pub struct Answered(pub Result<Response, Errno>);
+
+impl fmt::Display for Answered {
+    fn fmt<W: fmt::Write>(&self, f: &mut fmt::Formatter<W>) -> fmt::Result {
+        match self.0 {
+            Ok(Response::Plain(answer)) => write!(f, "{}", Plain(answer)),
+            Ok(Response::Own(ids)) => write!(f, "{}", Own(ids)),
+            Err(e) => write!(f, "{}", Refused(e)),
+        }
+    }
+}
+
 // The text that a read put into its buffer, if the answer is one of a read.
-// until the lower crates answer so
-pub fn text_read(response: Response, buffer: &[u8]) -> Option<&[u8]> {
-    match response.answer {
-        CallAnswer::Plain(Answer::Length(length)) => buffer.get(..length),
+pub fn text_read(answer: Result<Response, Errno>, buffer: &[u8]) -> Option<&[u8]> {
+    match answer {
+        Ok(Response::Plain(Answer::Length(length))) => buffer.get(..length),
         _ => None,
     }
 }
