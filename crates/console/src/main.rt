@@ -1,150 +1,86 @@
 // Reads calls from standard input, a line for each, and writes an answer line for each: docs/console.md has the form.
 #![tactic(auto)]
 
-use script::lines::{MAX_LINE, MAX_LIST, lengthen};
-use script::output;
+use calls::Call;
+use script::answers::{Answered, Quoted};
+use script::input::{Lines, serve};
+use script::lines::{BufferLength, Lent, Line, MAX_BUFFER, Malformed, Parser};
+use script::output::Output;
 use std::io;
-use std::io::{Read, Write};
+use std::io::Write;
 use tables::{TABLES_WIDTH, Tables};
 
-mod lines;
-
-use crate::lines::answer_line;
-
-// The room for output.
-const OUT_ROOM: usize = 65536;
-
-// The most bytes that one read brings.
-const PIECE: usize = 65536;
-
-// How many bytes of a line are gathered, and how much of the output buffer is in use.
-#[derive(Clone, Copy)]
-struct Progress {
-    have: usize,
-    at: usize,
+// The tables that calls are made on, the room for the buffer of a read, and where answers go.
+#[derive(Drop)]
+struct Host<'a, W> {
+    tables: &'a mut Tables,
+    buffer: [u8; MAX_BUFFER],
+    out: Output<W>,
 }
 
-// Takes a byte of the input: a newline ends the line.
-fn take_byte<W: Write>(
-    to: &mut W,
-    t: &mut Tables,
-    b: u8,
-    line: &mut [u8],
-    p: Progress,
-    scratch: &mut [u8],
-    ids: &mut [u32; MAX_LIST],
-    out: &mut [u8],
-) -> io::Result<Progress> {
-    let have = p.have;
-    let at = p.at;
-    if b == b'\n' {
-        let end = answer_line(to, t, line, have, scratch, ids, out, at)?;
-        return Ok(Progress { have: 0, at: end });
+impl<W: Write> Host<'_, W> {
+    // A read. Each byte of its buffer is a dot before the call.
+    fn read(&mut self, call: Call, length: BufferLength) -> io::Result<()> {
+        let Host {
+            tables,
+            buffer,
+            out,
+        } = self;
+        let buffer = &mut buffer[..length.bytes];
+        buffer.fill(b'.');
+        let answer = calls::answer(tables, call, b"", &[], buffer);
+        writeln!(out, "{} {}", Answered(answer), Quoted(buffer))
     }
-    Ok(Progress {
-        have: lengthen(line, have, b),
-        at: at,
-    })
-}
 
-// Takes a piece of the input, whose first line may have begun in the piece before it, and answers how much of its last
-// line the line's buffer has.
-fn take<W: Write>(
-    to: &mut W,
-    t: &mut Tables,
-    piece: &[u8],
-    line: &mut [u8],
-    have: usize,
-    scratch: &mut [u8],
-    ids: &mut [u32; MAX_LIST],
-    out: &mut [u8],
-) -> io::Result<usize> {
-    let mut p = Progress { have: have, at: 0 };
-    for b in piece {
-        p = take_byte(to, t, *b, line, p, scratch, ids, out)?;
+    // Makes a call with what is lent to it.
+    fn call(&mut self, call: Call, lent: Lent<'_>) -> io::Result<()> {
+        if let Some(length) = lent.buffer {
+            return self.read(call, length);
+        }
+        let answer = calls::answer(self.tables, call, lent.text, lent.list, &mut []);
+        writeln!(self.out, "{}", Answered(answer))
     }
-    output::flush(to, out, p.at)?;
-    Ok(p.have)
-}
 
-// What a read brings: how much of a last line there is then, or the input's end.
-#[derive(Clone, Copy)]
-enum Brought {
-    Have(usize),
-    End,
-}
-
-// One read of the input, and the lines that it completes.
-fn read_once<R: Read, W: Write>(
-    from: &mut R,
-    to: &mut W,
-    t: &mut Tables,
-    line: &mut [u8],
-    have: usize,
-    scratch: &mut [u8],
-    ids: &mut [u32; MAX_LIST],
-    out: &mut [u8],
-) -> io::Result<Brought> {
-    let mut piece = [0u8; PIECE];
-    let n = from.read(&mut piece)?;
-    if n == 0 {
-        return Ok(Brought::End);
+    fn fresh(&mut self) -> io::Result<()> {
+        tables::initial::initial(self.tables);
+        self.out.write_all(b"fresh\n")
     }
-    let left = take(to, t, &piece[..n], line, have, scratch, ids, out)?;
-    Ok(Brought::Have(left))
 }
 
-// The last line, where it lacks its newline.
-fn finish<W: Write>(
-    to: &mut W,
-    t: &mut Tables,
-    line: &[u8],
-    have: usize,
-    scratch: &mut [u8],
-    ids: &mut [u32; MAX_LIST],
-    out: &mut [u8],
-) -> io::Result<()> {
-    if have > 0 {
-        let at = answer_line(to, t, line, have, scratch, ids, out, 0)?;
-        output::flush(to, out, at)?;
-    }
-    Ok(())
+// Answers lines, and writes nothing for a comment and for a blank one.
+#[derive(Drop)]
+struct Console<'a, W> {
+    parser: Parser,
+    host: Host<'a, W>,
 }
 
-// Reads the input to its end. Nothing says that it has one, so the turns are counted; 2 to the 64 of them never come.
-fn serve<R: Read, W: Write>(
-    from: &mut R,
-    to: &mut W,
-    t: &mut Tables,
-    line: &mut [u8],
-    scratch: &mut [u8],
-    ids: &mut [u32; MAX_LIST],
-    out: &mut [u8],
-) -> io::Result<()> {
-    let mut have: usize = 0;
-    for _ in 0..u64::MAX {
-        let Brought::Have(n) = read_once(from, to, t, line, have, scratch, ids, out)? else {
-            return finish(to, t, line, have, scratch, ids, out);
-        };
-        have = n;
+impl<W: Write> Lines for Console<'_, W> {
+    type Error = io::Error;
+
+    fn take_line(&mut self, line: &[u8]) -> io::Result<()> {
+        match self.parser.parse(line) {
+            Ok(Line::Blank) => Ok(()),
+            Ok(Line::Fresh) => self.host.fresh(),
+            Ok(Line::Call(call, lent)) => self.host.call(call, lent),
+            Err(Malformed) => self.host.out.write_all(b"malformed\n"),
+        }
     }
-    Ok(())
+
+    fn flush(&mut self) -> io::Result<()> {
+        self.host.out.flush()
+    }
 }
 
 fn main(rt: HostRuntime) -> io::Result<()> {
-    let mut t = [0u64; TABLES_WIDTH];
-    tables::initial::initial(&mut t);
-    let mut line = [0u8; MAX_LINE];
-    let mut scratch = [0u8; MAX_LINE];
-    let mut ids = [0u32; MAX_LIST];
-    let mut out = [0u8; OUT_ROOM];
-    serve(
-        &mut rt.stdin(),
-        &mut rt.stdout(),
-        &mut t,
-        &mut line,
-        &mut scratch,
-        &mut ids,
-        &mut out,
-    )
+    let mut tables = [0u64; TABLES_WIDTH];
+    tables::initial::initial(&mut tables);
+    let mut console = Console {
+        parser: Parser::new(),
+        host: Host {
+            tables: &mut tables,
+            buffer: [0; MAX_BUFFER],
+            out: Output::new(rt.stdout()),
+        },
+    };
+    serve(&mut rt.stdin(), &mut console)
 }

@@ -2,211 +2,80 @@
 // forms. A line that has no record ends the journal, and standard error says which line it is and why.
 #![tactic(auto)]
 
-use crate::lines::{Recorded, Stop};
+ghost use Rattle.std.specs.Prelude.{◌≤◌, IfOk};
+
+use crate::ends::{Ended, Stop};
+use journal::write::{Beside, write_record};
 use journal::{MAX_RECORD, VERSION};
-use script::lines::{MAX_LINE, MAX_LIST, lengthen};
-use script::output;
+use script::input::{Lines, serve};
+use script::lines::{Line, Parser};
+use script::output::Output;
 use std::io;
-use std::io::{Read, Write};
+use std::io::Write;
 
-mod lines;
-mod report;
+mod ends;
 
-// How many bytes of records are gathered before they are written.
-const FULL: usize = 65536;
-
-// The room for output: the longest record fits behind those that are gathered.
-const OUT_ROOM: usize = FULL + MAX_RECORD;
-
-// The most bytes that one read brings.
-const PIECE: usize = 65536;
-
-// The turns of a loop over the input are counted, since nothing says that it ends. As many never come.
-const MOST_TURNS: u64 = 18446744073709551615;
-
-// How many bytes of a line are gathered, how much of the output buffer is in use, the line's number, and whether there
-// is more to do.
-#[derive(Clone, Copy)]
-struct Progress {
-    have: usize,
-    at: usize,
+// Turns lines into records.
+#[derive(Drop)]
+struct Recorder<W> {
+    parser: Parser,
+    record: [u8; MAX_RECORD],
+    // The number of the next line.
     number: u64,
-    going: bool,
+    out: Output<W>,
 }
 
-// Makes room for a record, and answers how much of the output buffer is in use then.
-fn make_room<W: Write>(to: &mut W, out: &[u8], at: usize) -> io::Result<usize> {
-    if at < FULL {
-        return Ok(at);
-    }
-    output::flush(to, out, at)?;
-    Ok(0)
-}
-
-// Writes what is gathered. There is nothing more to do then.
-fn stop<W: Write>(to: &mut W, out: &[u8], at: usize) -> io::Result<Progress> {
-    output::flush(to, out, at)?;
-    Ok(Progress {
-        have: 0,
-        at: 0,
-        number: 0,
-        going: false,
-    })
-}
-
-fn stop_at<W: Write, E: Write>(
-    to: &mut W,
-    errors: &mut E,
-    out: &[u8],
-    at: usize,
-    number: u64,
-    why: Stop,
-) -> io::Result<Progress> {
-    let p = stop(to, out, at)?;
-    report::report(errors, number, why)?;
-    Ok(p)
-}
-
-fn end_line<W: Write, E: Write>(
-    to: &mut W,
-    errors: &mut E,
-    line: &[u8],
-    p: Progress,
-    scratch: &mut [u8],
-    ids: &mut [u32; MAX_LIST],
-    out: &mut [u8],
-) -> io::Result<Progress> {
-    let number = p.number;
-    let at = make_room(to, out, p.at)?;
-    match lines::record_line(line, p.have, scratch, ids, out, at) {
-        Recorded::Length(n) => Ok(Progress {
-            have: 0,
-            at: at.wrapping_add(n),
-            number: number.wrapping_add(1),
-            going: true,
-        }),
-        Recorded::Stopped(why) => stop_at(to, errors, out, at, number, why),
-    }
-}
-
-// Takes a byte of the input: a newline ends the line.
-fn take_byte<W: Write, E: Write>(
-    to: &mut W,
-    errors: &mut E,
-    b: u8,
-    line: &mut [u8],
-    p: Progress,
-    scratch: &mut [u8],
-    ids: &mut [u32; MAX_LIST],
-    out: &mut [u8],
-) -> io::Result<Progress> {
-    if b == b'\n' {
-        return end_line(to, errors, line, p, scratch, ids, out);
-    }
-    Ok(Progress {
-        have: lengthen(line, p.have, b),
-        at: p.at,
-        number: p.number,
-        going: true,
-    })
-}
-
-// Takes a piece of the input, whose first line may have begun in the piece before it.
-fn take<W: Write, E: Write>(
-    to: &mut W,
-    errors: &mut E,
-    piece: &[u8],
-    line: &mut [u8],
-    from: Progress,
-    scratch: &mut [u8],
-    ids: &mut [u32; MAX_LIST],
-    out: &mut [u8],
-) -> io::Result<Progress> {
-    let mut p = from;
-    for b in piece {
-        p = take_byte(to, errors, *b, line, p, scratch, ids, out)?;
-        if !p.going {
-            return Ok(p);
+impl<W: Write> Recorder<W> {
+    // Makes the record of a line, and answers how many bytes it has, which are none of a blank line and of a comment.
+    #[tactic(auto, unfolding(journal::specs::Journal::write_of))]
+    fn record(&mut self, line: &[u8]) -> Result<usize, Stop>
+        ensures { IfOk result (λ n. n ≤ 65537) }
+    {
+        match self.parser.parse(line)? {
+            Line::Blank => Ok(0),
+            Line::Fresh => Err(Stop::Fresh),
+            Line::Call(call, lent) => {
+                let beside = Beside {
+                    text: lent.text,
+                    list: lent.list,
+                    buffer_length: lent.buffer.map_or(0, |length| length.bytes as u64),
+                };
+                Ok(write_record(call, &beside, &mut self.record, 0)?)
+            }
         }
     }
-    output::flush(to, out, p.at)?;
-    p.at = 0;
-    Ok(p)
 }
 
-// The input's end: its last line may lack a newline.
-fn finish<W: Write, E: Write>(
-    to: &mut W,
-    errors: &mut E,
-    line: &[u8],
-    p: Progress,
-    scratch: &mut [u8],
-    ids: &mut [u32; MAX_LIST],
-    out: &mut [u8],
-) -> io::Result<Progress> {
-    if p.have == 0 {
-        return stop(to, out, p.at);
-    }
-    let last = end_line(to, errors, line, p, scratch, ids, out)?;
-    stop(to, out, last.at)
-}
+impl<W: Write> Lines for Recorder<W> {
+    type Error = Ended;
 
-// One read of the input, and the lines that it completes.
-fn read_once<R: Read, W: Write, E: Write>(
-    from: &mut R,
-    to: &mut W,
-    errors: &mut E,
-    line: &mut [u8],
-    p: Progress,
-    scratch: &mut [u8],
-    ids: &mut [u32; MAX_LIST],
-    out: &mut [u8],
-) -> io::Result<Progress> {
-    let mut piece = [0u8; PIECE];
-    let n = from.read(&mut piece)?;
-    if n == 0 {
-        return finish(to, errors, line, p, scratch, ids, out);
+    fn take_line(&mut self, line: &[u8]) -> Result<(), Ended> {
+        let number = self.number;
+        let n = self.record(line).map_err(|why| Ended::AtLine(number, why))?;
+        self.out.write_all(&self.record[..n])?;
+        self.number = number.wrapping_add(1);
+        Ok(())
     }
-    take(to, errors, &piece[..n], line, p, scratch, ids, out)
-}
 
-// Reads the input to its end or to a stop.
-fn record<R: Read, W: Write, E: Write>(
-    from: &mut R,
-    to: &mut W,
-    errors: &mut E,
-    line: &mut [u8],
-    scratch: &mut [u8],
-    ids: &mut [u32; MAX_LIST],
-    out: &mut [u8],
-) -> io::Result<()> {
-    let mut p = Progress {
-        have: 0,
-        at: output::put_byte(to, out, 0, VERSION)?,
-        number: 1,
-        going: true,
-    };
-    for _ in 0..MOST_TURNS {
-        p = read_once(from, to, errors, line, p, scratch, ids, out)?;
-        if !p.going {
-            return Ok(());
-        }
+    fn flush(&mut self) -> io::Result<()> {
+        self.out.flush()
     }
-    Ok(())
 }
 
 fn main(rt: HostRuntime) -> io::Result<()> {
-    let mut line = [0u8; MAX_LINE];
-    let mut scratch = [0u8; MAX_LINE];
-    let mut ids = [0u32; MAX_LIST];
-    let mut out = [0u8; OUT_ROOM];
-    record(
-        &mut rt.stdin(),
-        &mut rt.stdout(),
-        &mut rt.stderr(),
-        &mut line,
-        &mut scratch,
-        &mut ids,
-        &mut out,
-    )
+    let mut recorder = Recorder {
+        parser: Parser::new(),
+        record: [0; MAX_RECORD],
+        number: 1,
+        out: Output::new(rt.stdout()),
+    };
+    recorder.out.write_all(&[VERSION])?;
+    match serve(&mut rt.stdin(), &mut recorder) {
+        Ok(()) => Ok(()),
+        Err(Ended::Failed(error)) => Err(error),
+        Err(Ended::AtLine(number, why)) => {
+            recorder.flush()?;
+            eprintln!(rt; "line {number}: {why}")
+        }
+    }
 }

@@ -1,97 +1,92 @@
 // Makes the calls of a journal on standard input and prints each answer: docs/journal.md has both forms.
 #![tactic(auto)]
 
-use crate::window::{Place, WINDOW_ROOM};
+use crate::stops::Why;
+use crate::window::Window;
+use calls::Response;
 use journal::MAX_IDS;
-use journal::read::{Read, Stop};
-use replay_step::MAX_READ;
+use journal::read::{Stop, Stopped};
+use replay_step::{MAX_READ, step};
+use script::answers::{Answered, Quoted, text_read};
+use script::output::Output;
 use std::io;
-use std::io::Write;
+use std::io::{Read, Write};
+use tables::answer::Errno;
 use tables::{TABLES_WIDTH, Tables};
 
-mod run;
 mod stops;
 mod window;
 
-// The room for output.
-const OUT_ROOM: usize = 65536;
-
-// The turns of a loop over the input are counted, since nothing says that it ends. As many never come.
-const MOST_TURNS: u64 = 18446744073709551615;
-
-// Whether more input can bring more calls.
-fn wants_more(read: Read) -> bool {
-    match read {
-        Ok(_) => true,
-        Err(s) => matches!(s.why, Stop::Cut),
-    }
+// The tables that calls are made on, the journal, what is lent to its calls, and where answers go.
+#[derive(Drop)]
+struct Replay<'a, W> {
+    tables: &'a mut Tables,
+    window: Window,
+    list: [u32; MAX_IDS],
+    buffer: [u8; MAX_READ],
+    out: Output<W>,
 }
 
-// What comes after a read of the input: another one, or nothing.
-#[derive(Clone, Copy)]
-enum Turn {
-    On(Place),
-    Done,
-}
-
-// One read of the input, and the records that it completes.
-fn read_once<R: io::Read, W: Write>(
-    from: &mut R,
-    to: &mut W,
-    t: &mut Tables,
-    window: &mut [u8],
-    p: Place,
-    list: &mut [u32; MAX_IDS],
-    buffer: &mut [u8; MAX_READ],
-    out: &mut [u8],
-) -> io::Result<Turn> {
-    let q = window::read_on(from, window, p)?;
-    let journal = window::held(window, q);
-    let left = run::replay_whole(to, t, journal, q.at, list, buffer, out)?;
-    let read = left.read;
-    if !q.ended {
-        if wants_more(read) {
-            return Ok(Turn::On(window::at_record(q, left.at)));
+impl<W: Write> Replay<'_, W> {
+    // Prints the answer of a call: of a read with the bytes that it read after it.
+    fn print(&mut self, answer: Result<Response, Errno>) -> io::Result<()> {
+        match text_read(answer, &self.buffer) {
+            Some(text) => writeln!(self.out, "{} {}", Answered(answer), Quoted(text)),
+            None => writeln!(self.out, "{}", Answered(answer)),
         }
     }
-    stops::print_end(to, read, q.dropped, out)?;
-    Ok(Turn::Done)
-}
 
-// Reads the input to its end or to a stop.
-fn serve<R: io::Read, W: Write>(
-    from: &mut R,
-    to: &mut W,
-    t: &mut Tables,
-    window: &mut [u8],
-    list: &mut [u32; MAX_IDS],
-    buffer: &mut [u8; MAX_READ],
-    out: &mut [u8],
-) -> io::Result<()> {
-    let mut p = window::START;
-    for _ in 0..MOST_TURNS {
-        let Turn::On(q) = read_once(from, to, t, window, p, list, buffer, out)? else {
-            return Ok(());
-        };
-        p = q;
+    // Makes the calls of the whole records that the window has, and answers what stops the next one, if anything does.
+    fn replay_whole(&mut self) -> io::Result<Option<Stopped>> {
+        for _ in 0..u64::MAX {
+            match step(
+                self.tables,
+                self.window.held(),
+                self.window.at,
+                &mut self.list,
+                &mut self.buffer,
+            ) {
+                Ok(Some(replayed)) => {
+                    self.print(replayed.answer)?;
+                    self.window.at = replayed.record.next;
+                }
+                Ok(None) => return Ok(None),
+                Err(stopped) => return Ok(Some(stopped)),
+            }
+        }
+        Ok(None)
     }
-    Ok(())
+
+    // Reads the input to its end or to a stop. Nothing says that it has an end, so the turns are counted; 2 to the 64 of
+    // them never come.
+    fn serve<R: Read>(&mut self, from: &mut R) -> io::Result<Option<Stopped>> {
+        for _ in 0..u64::MAX {
+            let n = self.window.read_on(from)?;
+            let stopped = self.replay_whole()?;
+            self.out.flush()?;
+            // More input may complete a record that is cut off.
+            if n == 0 || !matches!(stopped, None | Some(Stopped { why: Stop::Cut, .. })) {
+                return Ok(stopped);
+            }
+        }
+        Ok(None)
+    }
 }
 
 fn main(rt: HostRuntime) -> io::Result<()> {
-    let mut t = [0u64; TABLES_WIDTH];
-    tables::initial::initial(&mut t);
-    let mut window = [0u8; WINDOW_ROOM];
-    let mut list = [0u32; MAX_IDS];
-    let mut buffer = [0u8; MAX_READ];
-    let mut out = [0u8; OUT_ROOM];
-    serve(
-        &mut rt.stdin(),
-        &mut rt.stdout(),
-        &mut t,
-        &mut window,
-        &mut list,
-        &mut buffer,
-        &mut out,
-    )
+    let mut tables = [0u64; TABLES_WIDTH];
+    tables::initial::initial(&mut tables);
+    let mut replay = Replay {
+        tables: &mut tables,
+        window: Window::new(),
+        list: [0; MAX_IDS],
+        buffer: [0; MAX_READ],
+        out: Output::new(rt.stdout()),
+    };
+    if let Some(stopped) = replay.serve(&mut rt.stdin())? {
+        let offset = replay.window.offset(stopped.at);
+        writeln!(replay.out, "stopped at {offset}: {}", Why(stopped.why))?;
+        replay.out.flush()?;
+    }
+    Ok(())
 }

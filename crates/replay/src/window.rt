@@ -1,5 +1,5 @@
-// A part of the journal in a lent buffer, the window: the version byte, and behind it what is read and not replayed.
-ghost use Rattle.std.specs.Prelude.{◌≤◌, length};
+// A part of the journal in a buffer, the window: the version byte, and behind it what is read and not replayed.
+ghost use Rattle.std.specs.Prelude.{◌≤◌};
 
 use journal::MAX_RECORD;
 use std::io;
@@ -8,90 +8,55 @@ use std::io::Read;
 // The room for it. The version byte and two of the longest records fit.
 pub const WINDOW_ROOM: usize = 1 + 2 * MAX_RECORD;
 
-// Where the next record stands in the window, how many bytes the window has, how many bytes of the journal are dropped
-// from it, and whether the input has ended.
-#[derive(Clone, Copy)]
-pub struct Place {
+#[derive(Drop)]
+pub struct Window {
+    bytes: [u8; WINDOW_ROOM],
+    filled: usize,
+    // Where the next record stands.
     pub at: usize,
-    pub filled: usize,
-    pub dropped: u64,
-    pub ended: bool,
+    // How many bytes of the journal are dropped.
+    dropped: u64,
+    ghost in_room: { filled ≤ 131075 },
 }
 
-pub const START: Place = Place {
-    at: 0,
-    filled: 0,
-    dropped: 0,
-    ended: false,
-};
+impl Window {
+    pub fn new() -> Window {
+        Window {
+            bytes: [0; WINDOW_ROOM],
+            filled: 0,
+            at: 0,
+            dropped: 0,
+        }
+    }
 
-// The bytes that the window has.
-pub fn held(window: &[u8], p: Place) -> &[u8] {
-    let n = p.filled;
-    if n <= window.len() {
-        return &window[..n];
+    // The bytes that the window has.
+    pub fn held(&self) -> &[u8] {
+        &self.bytes[..self.filled]
     }
-    window
-}
 
-// The place of a later record.
-pub fn at_record(p: Place, at: usize) -> Place {
-    Place {
-        at: at,
-        filled: p.filled,
-        dropped: p.dropped,
-        ended: p.ended,
+    // The place in the journal of a place in the window.
+    pub fn offset(&self, at: usize) -> u64 {
+        self.dropped.wrapping_add(at as u64)
     }
-}
 
-// Moves the bytes from `from` up to `end` to the places behind the version byte, and answers where they end then.
-fn move_down(window: &mut [u8], from: usize, end: usize) -> usize
-    requires { (1 ≤ from) × (end ≤ length window.old) }
-{
-    let mut to: usize = 1;
-    for i in from..end {
-        window[to] = window[i];
-        to += 1;
+    // Drops what is replayed, but for the version byte.
+    fn drop_replayed(&mut self) {
+        let at = self.at;
+        let filled = self.filled;
+        if 1 < at && at <= filled {
+            self.bytes.copy_within(at..filled, 1);
+            self.filled = filled - (at - 1);
+            self.at = 1;
+            self.dropped = self.dropped.wrapping_add((at - 1) as u64);
+        }
     }
-    to
-}
 
-// Drops what is replayed, but for the version byte.
-fn drop_replayed(window: &mut [u8], p: Place) -> Place {
-    let at = p.at;
-    let filled = p.filled;
-    if at <= 1 {
-        return p;
+    // Reads on where no whole record is left, as much as there is room for, and answers how many bytes that are.
+    pub fn read_on<R: Read>(&mut self, from: &mut R) -> io::Result<usize> {
+        self.drop_replayed();
+        let filled = self.filled;
+        let n = from.read(&mut self.bytes[filled..])?;
+        self.filled = filled + n;
+        Ok(n)
     }
-    if filled > window.len() {
-        return p;
-    }
-    let end = move_down(window, at, filled);
-    Place {
-        at: 1,
-        filled: end,
-        dropped: p.dropped.wrapping_add((at - 1) as u64),
-        ended: false,
-    }
-}
-
-// Reads as much more of the input as there is room for.
-fn read_behind<R: Read>(from: &mut R, window: &mut [u8], p: Place) -> io::Result<Place> {
-    let filled = p.filled;
-    if filled > window.len() {
-        return Ok(p);
-    }
-    let n = from.read(&mut window[filled..])?;
-    Ok(Place {
-        at: p.at,
-        filled: filled + n,
-        dropped: p.dropped,
-        ended: n == 0,
-    })
-}
-
-// Reads on where no whole record is left in the window.
-pub fn read_on<R: Read>(from: &mut R, window: &mut [u8], p: Place) -> io::Result<Place> {
-    let q = drop_replayed(window, p);
-    read_behind(from, window, q)
 }

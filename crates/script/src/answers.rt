@@ -1,143 +1,154 @@
-// Answers as lines of output.
-use crate::output::{put_byte, put_bytes, put_number, put_quoted};
-use calls::{CallAnswer, Response};
+// Answers as text.
+use calls::Response;
 use credentials::own::OwnIds;
-use records::{GroupList, Ids, MAX_GROUPS};
-use std::io;
-use std::io::Write;
+use records::Ids;
+use std::fmt;
 use tables::answer::{Answer, Errno};
 
-pub fn malformed<W: Write>(to: &mut W, out: &mut [u8], at: usize) -> io::Result<usize> {
-    put_bytes(to, out, at, b"malformed\n")
-}
+// A refusal's number and name.
+#[derive(Clone, Copy)]
+pub struct Refused(pub Errno);
 
-pub fn put_errno<W: Write>(to: &mut W, out: &mut [u8], at: usize, e: Errno) -> io::Result<usize> {
-    match e {
-        Errno::EPERM => put_bytes(to, out, at, b"refused 1 EPERM"),
-        Errno::ESRCH => put_bytes(to, out, at, b"refused 3 ESRCH"),
-        Errno::EAGAIN => put_bytes(to, out, at, b"refused 11 EAGAIN"),
-        Errno::EINVAL => put_bytes(to, out, at, b"refused 22 EINVAL"),
-        Errno::ENOSPC => put_bytes(to, out, at, b"refused 28 ENOSPC"),
-        Errno::ERANGE => put_bytes(to, out, at, b"refused 34 ERANGE"),
-        Errno::EUSERS => put_bytes(to, out, at, b"refused 87 EUSERS"),
+impl fmt::Display for Refused {
+    fn fmt<W: fmt::Write>(&self, f: &mut fmt::Formatter<W>) -> fmt::Result {
+        // Each is one text, since a number and a name written apart make the console a tenth slower.
+        let words = match self.0 {
+            Errno::EPERM => "refused 1 EPERM",
+            Errno::ESRCH => "refused 3 ESRCH",
+            Errno::EAGAIN => "refused 11 EAGAIN",
+            Errno::EINVAL => "refused 22 EINVAL",
+            Errno::ENOSPC => "refused 28 ENOSPC",
+            Errno::ERANGE => "refused 34 ERANGE",
+            Errno::EUSERS => "refused 87 EUSERS",
+        };
+        f.write_str(words)
     }
 }
 
-fn put_ids<W: Write>(to: &mut W, out: &mut [u8], at: usize, ids: Ids) -> io::Result<usize> {
-    let a = put_number(to, out, at, ids.real as u64)?;
-    let b = put_number(to, out, a, ids.effective as u64)?;
-    put_number(to, out, b, ids.saved as u64)
+// Three IDs, each after a space.
+#[derive(Clone, Copy)]
+struct ThreeIds(Ids);
+
+impl fmt::Display for ThreeIds {
+    fn fmt<W: fmt::Write>(&self, f: &mut fmt::Formatter<W>) -> fmt::Result {
+        let Ids {
+            real,
+            effective,
+            saved,
+        } = self.0;
+        write!(f, " {real} {effective} {saved}")
+    }
 }
 
-fn put_groups<W: Write>(
-    to: &mut W,
-    out: &mut [u8],
-    at: usize,
-    groups: GroupList,
-) -> io::Result<usize> {
-    let ids = groups.ids;
-    let count = groups.count;
-    let mut end = at;
-    for i in 0..MAX_GROUPS {
-        if count <= i as u64 {
-            return Ok(end);
+// A list of IDs, each after a space.
+#[derive(Clone, Copy)]
+struct List<'a>(&'a [u32]);
+
+impl fmt::Display for List<'_> {
+    fn fmt<W: fmt::Write>(&self, f: &mut fmt::Formatter<W>) -> fmt::Result {
+        for id in self.0 {
+            write!(f, " {id}")?;
         }
-        let id = ids[i];
-        end = put_number(to, out, end, id as u64)?;
+        Ok(())
     }
-    Ok(end)
 }
 
-fn put_own<W: Write>(to: &mut W, out: &mut [u8], at: usize, own: OwnIds) -> io::Result<usize> {
-    let users = own.users;
-    let groups = own.groups;
-    let supplementary = own.supplementary;
-    let a = put_bytes(to, out, at, b"uid")?;
-    let b = put_ids(to, out, a, users)?;
-    let c = put_bytes(to, out, b, b" gid")?;
-    let d = put_ids(to, out, c, groups)?;
-    let e = put_bytes(to, out, d, b" groups")?;
-    put_groups(to, out, e, supplementary)
+// A process's own IDs.
+#[derive(Clone, Copy)]
+struct Own(OwnIds);
+
+impl fmt::Display for Own {
+    fn fmt<W: fmt::Write>(&self, f: &mut fmt::Formatter<W>) -> fmt::Result {
+        let users = ThreeIds(self.0.users);
+        let groups = ThreeIds(self.0.groups);
+        write!(f, "uid{users} gid{groups} groups")?;
+        let list = self.0.supplementary;
+        let count = (list.count as usize).min(list.ids.len());
+        write!(f, "{}", List(&list.ids[..count]))
+    }
 }
 
-// A word and a number.
-fn put_named<W: Write>(
-    to: &mut W,
-    out: &mut [u8],
-    at: usize,
-    name: &[u8],
-    n: u64,
-) -> io::Result<usize> {
-    let end = put_bytes(to, out, at, name)?;
-    put_number(to, out, end, n)
-}
+// An answer that is no refusal and no own IDs.
+#[derive(Clone, Copy)]
+struct Plain(Answer);
 
-fn put_plain<W: Write>(to: &mut W, out: &mut [u8], at: usize, answer: Answer) -> io::Result<usize> {
-    match answer {
-        Answer::Refused(e) => put_errno(to, out, at, e),
-        Answer::Done => put_bytes(to, out, at, b"done"),
-        Answer::Child(p) => put_named(to, out, at, b"child", p),
-        Answer::ChildIn(p, n) => {
-            let end = put_named(to, out, at, b"child", p)?;
-            put_named(to, out, end, b" namespace", n)
+impl fmt::Display for Plain {
+    fn fmt<W: fmt::Write>(&self, f: &mut fmt::Formatter<W>) -> fmt::Result {
+        match self.0 {
+            Answer::Done => f.write_str("done"),
+            Answer::Child(process) => write!(f, "child {process}"),
+            Answer::ChildIn(process, name) => write!(f, "child {process} namespace {name}"),
+            Answer::NewNamespace(name) => write!(f, "namespace {name}"),
+            Answer::Yes => f.write_str("yes"),
+            Answer::No => f.write_str("no"),
+            Answer::Length(length) => write!(f, "length {length}"),
+            Answer::Id(id) => write!(f, "id {id}"),
+            Answer::Unmapped => f.write_str("unmapped"),
         }
-        Answer::NewNamespace(n) => put_named(to, out, at, b"namespace", n),
-        Answer::Yes => put_bytes(to, out, at, b"yes"),
-        Answer::No => put_bytes(to, out, at, b"no"),
-        Answer::Length(n) => put_named(to, out, at, b"length", n as u64),
-        Answer::Id(x) => put_named(to, out, at, b"id", x as u64),
-        Answer::Unmapped => put_bytes(to, out, at, b"unmapped"),
     }
 }
 
-fn put_words<W: Write>(to: &mut W, out: &mut [u8], at: usize, r: Response) -> io::Result<usize> {
-    let answer = r.answer;
+// What a call answers.
+#[derive(Clone, Copy)]
+pub struct Answered(pub Result<Response, Errno>);
+
+impl fmt::Display for Answered {
+    fn fmt<W: fmt::Write>(&self, f: &mut fmt::Formatter<W>) -> fmt::Result {
+        match self.0 {
+            Ok(Response::Plain(answer)) => write!(f, "{}", Plain(answer)),
+            Ok(Response::Own(ids)) => write!(f, "{}", Own(ids)),
+            Err(e) => write!(f, "{}", Refused(e)),
+        }
+    }
+}
+
+// The text that a read put into its buffer, if the answer is one of a read.
+pub fn text_read(answer: Result<Response, Errno>, buffer: &[u8]) -> Option<&[u8]> {
     match answer {
-        CallAnswer::Plain(a) => put_plain(to, out, at, a),
-        CallAnswer::Own => put_own(to, out, at, r.ids),
+        Ok(Response::Plain(Answer::Length(length))) => buffer.get(..length),
+        _ => None,
     }
 }
 
-pub fn put_answer<W: Write>(
-    to: &mut W,
-    out: &mut [u8],
-    at: usize,
-    r: Response,
-) -> io::Result<usize> {
-    let end = put_words(to, out, at, r)?;
-    put_byte(to, out, end, b'\n')
+// A text in quotes, with its escapes.
+#[derive(Clone, Copy)]
+pub struct Quoted<'a>(pub &'a [u8]);
+
+// Whether a byte of a text is printed as it is.
+fn is_plain(b: u8) -> bool {
+    matches!(b, b' '..=b'~') && !matches!(b, b'"' | b'\\')
 }
 
-// The answer of a read, refused or not, with the whole buffer after it.
-pub fn put_read<W: Write>(
-    to: &mut W,
-    out: &mut [u8],
-    at: usize,
-    r: Response,
-    buffer: &[u8],
-) -> io::Result<usize> {
-    let words = put_words(to, out, at, r)?;
-    let end = put_quoted(to, out, words, buffer)?;
-    put_byte(to, out, end, b'\n')
-}
-
-// The answer of any call: of a read with the bytes that it read after it, and of a refused one with nothing.
-pub fn put_answer_and_text<W: Write>(
-    to: &mut W,
-    out: &mut [u8],
-    at: usize,
-    r: Response,
-    buffer: &[u8],
-) -> io::Result<usize> {
-    let answer = r.answer;
-    let CallAnswer::Plain(plain) = answer else {
-        return put_answer(to, out, at, r);
-    };
-    let Answer::Length(n) = plain else {
-        return put_answer(to, out, at, r);
-    };
-    if n > buffer.len() {
-        return put_answer(to, out, at, r);
+fn write_escaped<W: fmt::Write>(f: &mut fmt::Formatter<W>, b: u8) -> fmt::Result {
+    match b {
+        b'\n' => f.write_str("\\n"),
+        b'\t' => f.write_str("\\t"),
+        b'"' => f.write_str("\\\""),
+        b'\\' => f.write_str("\\\\"),
+        b' '..=b'~' => f.write_char(char::from(b)),
+        _ => write!(f, "\\x{b:02x}"),
     }
-    put_read(to, out, at, r, &buffer[..n])
+}
+
+// Writes plain bytes, or one that is not. The plain ones are written as one text, since one by one takes twice as long.
+fn write_part<W: fmt::Write>(f: &mut fmt::Formatter<W>, part: &[u8]) -> fmt::Result {
+    match (part, str::from_utf8(part)) {
+        ([_, _, ..], Ok(plain)) => f.write_str(plain),
+        _ => {
+            for b in part {
+                write_escaped(f, *b)?;
+            }
+            Ok(())
+        }
+    }
+}
+
+impl fmt::Display for Quoted<'_> {
+    fn fmt<W: fmt::Write>(&self, f: &mut fmt::Formatter<W>) -> fmt::Result {
+        f.write_str("\"")?;
+        for part in self.0.chunk_by(|a, b| is_plain(*a) && is_plain(*b)) {
+            write_part(f, part)?;
+        }
+        f.write_str("\"")
+    }
 }

@@ -1,222 +1,199 @@
-// A line of a script: what it is, with its text and its IDs put into lent buffers.
-use crate::commands::{Arguments, Command, Made};
-use crate::texts::Text;
-use crate::tokens::Next;
-use crate::{commands, texts, tokens};
+// A line of a script: what it is, with what it lends to its call.
+ghost use Rattle.std.specs.Prelude.{◌≤◌};
+
+use crate::words::{Words, number};
+use crate::{commands, texts};
+use arrayvec::{ArrayVec, CapacityError};
 use calls::Call;
+use std::num::TryFromIntError;
 
 // The room for a line, and for a text on it. A longer line is malformed.
 pub const MAX_LINE: usize = 65536;
-
-// How many bytes a line that is too long counts as.
-const TOO_LONG: usize = MAX_LINE + 1;
 
 // The most IDs on a line of groups.
 pub const MAX_LIST: usize = 1000;
 
 // The greatest length of a read's buffer.
-pub const MAX_BUFFER: u64 = 65536;
+pub const MAX_BUFFER: usize = 65536;
 
-// What a call is lent: the lengths of its text, of its list and of its buffer.
-#[derive(Clone, Copy)]
-pub struct Beside {
-    pub text: usize,
-    pub ids: usize,
-    pub length: usize,
+// The most numbers of a line that is not one of groups.
+const MAX_NUMBERS: usize = 4;
+
+// That a line has none of the forms.
+#[derive(Clone, Copy, Debug)]
+pub struct Malformed;
+
+// A number that is too large for its type.
+impl From<TryFromIntError> for Malformed {
+    fn from(_error: TryFromIntError) -> Malformed {
+        Malformed
+    }
 }
 
-const NOTHING: Beside = Beside {
-    text: 0,
-    ids: 0,
-    length: 0,
+// More on a line than there is room for.
+impl<T: Drop> From<CapacityError<T>> for Malformed {
+    fn from(_error: CapacityError<T>) -> Malformed {
+        Malformed
+    }
+}
+
+// How long the buffer of a read is.
+#[derive(Clone, Copy)]
+pub struct BufferLength {
+    pub bytes: usize,
+    pub ghost bounded: { bytes ≤ 65536 },
+}
+
+impl TryFrom<u64> for BufferLength {
+    type Error = Malformed;
+
+    fn try_from(length: u64) -> Result<BufferLength, Malformed> {
+        if length <= MAX_BUFFER as u64 {
+            Ok(BufferLength {
+                bytes: length as usize,
+            })
+        } else {
+            Err(Malformed)
+        }
+    }
+}
+
+// What a line lends to its call: a text and a list, which are empty where it has none, and how long the buffer of a read
+// is.
+#[derive(Clone, Copy)]
+pub struct Lent<'a> {
+    pub text: &'a [u8],
+    pub list: &'a [u32],
+    pub buffer: Option<BufferLength>,
+}
+
+const NOTHING: Lent<'static> = Lent {
+    text: &[],
+    list: &[],
+    buffer: None,
 };
 
-// What a line is: nothing to do, a fresh start, a call with what is lent beside it, or none of these.
+// What a line is: nothing to do, a fresh start, or a call.
 #[derive(Clone, Copy)]
-pub enum Line {
+pub enum Line<'a> {
     Blank,
     Fresh,
-    Call(Call, Beside),
-    Malformed,
+    Call(Call, Lent<'a>),
 }
 
-// The text that is lent beside a call.
-pub fn text_of(text: &[u8], beside: Beside) -> &[u8] {
-    let n = beside.text;
-    if n <= text.len() {
-        return &text[..n];
-    }
-    text
-}
-
-// The list that is lent beside a call.
-pub fn list_of(ids: &[u32], beside: Beside) -> &[u32] {
-    let n = beside.ids;
-    if n <= ids.len() {
-        return &ids[..n];
-    }
-    ids
-}
-
-// Whether a call reads into a buffer.
-pub fn is_read(c: Call) -> bool {
-    match c {
-        Call::ReadMap(_, _, _) => true,
-        Call::ReadSetgroups(_, _) => true,
-        _ => false,
-    }
-}
-
-// A read with a buffer of `length` bytes.
-fn read_line(made: Made, length: u64) -> Line {
-    let Made::Call(c) = made else {
-        return Line::Malformed;
+// What stands on a line before its first quote, and what stands behind that, if it has one. A quote within a word makes
+// the line malformed.
+fn split_quoted(line: &[u8]) -> Result<(&[u8], Option<&[u8]>), Malformed> {
+    let Some(at) = line.iter().position(|b| *b == b'"') else {
+        return Ok((line, None));
     };
-    if length > MAX_BUFFER {
-        return Line::Malformed;
-    }
-    Line::Call(
-        c,
-        Beside {
-            text: 0,
-            ids: 0,
-            length: length as usize,
-        },
-    )
-}
-
-// A line whose arguments are numbers.
-fn numbers_line(command: Command, n: usize, values: &[u64; 4]) -> Line {
-    match commands::plain_call(command, n, values) {
-        Made::Call(c) => Line::Call(c, NOTHING),
-        Made::Nothing => read_line(commands::read_call(command, n, values), values[2]),
+    let before = &line[..at];
+    match before {
+        [] | [.., b' '] => Ok((before, Some(&line[at + 1..]))),
+        _ => Err(Malformed),
     }
 }
 
-// A line whose last argument is a text, with its first byte at `start`.
-fn text_line(made: Made, line: &[u8], start: usize, text: &mut [u8]) -> Line {
-    let Made::Call(c) = made else {
-        return Line::Malformed;
+// The numbers that the words of a line are.
+fn read_numbers(words: Words<'_>) -> Result<ArrayVec<u64, MAX_NUMBERS>, Malformed> {
+    let mut numbers = ArrayVec::new();
+    for word in words {
+        numbers.try_push(number(word)?)?;
+    }
+    Ok(numbers)
+}
+
+// A line of a call whose arguments are numbers.
+fn numbers_line(word: &[u8], words: Words<'_>) -> Result<Line<'static>, Malformed> {
+    let numbers = read_numbers(words)?;
+    if let Some(call) = commands::plain_call(word, numbers.as_slice()) {
+        return Ok(Line::Call(call, NOTHING));
+    }
+    let (call, length) = commands::read_call(word, numbers.as_slice()).ok_or(Malformed)?;
+    let lent = Lent {
+        buffer: Some(BufferLength::try_from(length)?),
+        ..NOTHING
     };
-    let Text::Length(n) = texts::read_text(line, start, text) else {
-        return Line::Malformed;
-    };
-    Line::Call(
-        c,
-        Beside {
-            text: n,
-            ids: 0,
-            length: 0,
-        },
-    )
+    Ok(Line::Call(call, lent))
 }
 
-// A line of any word but fresh and setgroups, whose arguments begin at `from`.
-fn call_line(command: Command, line: &[u8], from: usize, text: &mut [u8]) -> Line {
-    let mut values = [0u64; 4];
-    match commands::read_arguments(line, from, &mut values) {
-        Arguments::Numbers(n) => numbers_line(command, n, &values),
-        Arguments::WithText(n, start) => text_line(
-            commands::write_call(command, n, &values),
-            line,
-            start,
-            text,
-        ),
-        Arguments::Bad => Line::Malformed,
+fn fresh_line(mut words: Words<'_>) -> Result<Line<'static>, Malformed> {
+    match words.next() {
+        None => Ok(Line::Fresh),
+        Some(_) => Err(Malformed),
     }
 }
 
-// How many IDs stand on a line; or something else stands there, or too many.
-#[derive(Clone, Copy)]
-enum List {
-    Count(usize),
-    Bad,
+// Parses lines. It holds the text and the list of the last one.
+#[derive(Drop)]
+pub struct Parser {
+    text: ArrayVec<u8, MAX_LINE>,
+    list: ArrayVec<u32, MAX_LIST>,
 }
 
-// The IDs from `from` on, put into the lent buffer.
-fn read_list(line: &[u8], from: usize, ids: &mut [u32]) -> List {
-    let mut at = from;
-    let mut n: usize = 0;
-    loop {
-        let Next::Number(id, end) = tokens::next_token(line, at) else {
-            break;
+impl Parser {
+    pub fn new() -> Parser {
+        Parser {
+            text: ArrayVec::new(),
+            list: ArrayVec::new(),
+        }
+    }
+
+    // A line whose last argument is a text.
+    fn text_line(
+        &mut self,
+        word: &[u8],
+        words: Words<'_>,
+        quoted: &[u8],
+    ) -> Result<Line<'_>, Malformed> {
+        let numbers = read_numbers(words)?;
+        let call = commands::write_call(word, numbers.as_slice()).ok_or(Malformed)?;
+        texts::read_text(quoted, &mut self.text)?;
+        let lent = Lent {
+            text: self.text.as_slice(),
+            ..NOTHING
         };
-        if id > tokens::LARGEST_32 {
-            return List::Bad;
+        Ok(Line::Call(call, lent))
+    }
+
+    // A line of groups.
+    fn groups_line(&mut self, mut words: Words<'_>) -> Result<Line<'_>, Malformed> {
+        let caller = number(words.next().ok_or(Malformed)?)?;
+        self.list.clear();
+        for word in words {
+            let id = u32::try_from(number(word)?)?;
+            self.list.try_push(id)?;
         }
-        if n >= ids.len() {
-            return List::Bad;
+        let lent = Lent {
+            list: self.list.as_slice(),
+            ..NOTHING
+        };
+        Ok(Line::Call(Call::SetGroups(caller), lent))
+    }
+
+    // What a line is.
+    pub fn parse(&mut self, line: &[u8]) -> Result<Line<'_>, Malformed> {
+        if line.len() > MAX_LINE {
+            return Err(Malformed);
         }
-        ids[n] = id as u32;
-        at = end;
-        n += 1;
-    }
-    match tokens::next_token(line, at) {
-        Next::End => List::Count(n),
-        _ => List::Bad,
-    }
-}
-
-// A line of groups.
-fn groups_line(line: &[u8], from: usize, ids: &mut [u32; MAX_LIST]) -> Line {
-    let Next::Number(caller, after) = tokens::next_token(line, from) else {
-        return Line::Malformed;
-    };
-    let List::Count(n) = read_list(line, after, ids) else {
-        return Line::Malformed;
-    };
-    Line::Call(
-        Call::SetGroups(caller),
-        Beside {
-            text: 0,
-            ids: n,
-            length: 0,
-        },
-    )
-}
-
-fn fresh_line(line: &[u8], from: usize) -> Line {
-    if tokens::skip_spaces(line, from) < line.len() {
-        Line::Malformed
-    } else {
-        Line::Fresh
-    }
-}
-
-// What a line is. Its text goes into `text` and its list into `ids`.
-pub fn parse_line(line: &[u8], text: &mut [u8], ids: &mut [u32; MAX_LIST]) -> Line {
-    let w = tokens::word_at(line, 0);
-    let start = w.start;
-    let end = w.end;
-    if start == line.len() {
-        return Line::Blank;
-    }
-    if line[0] == b'#' {
-        return Line::Blank;
-    }
-    let command = commands::command_of(&line[start..end]);
-    match command {
-        Command::Fresh => fresh_line(line, end),
-        Command::SetGroups => groups_line(line, end, ids),
-        _ => call_line(command, line, end, text),
-    }
-}
-
-// A byte more on a line that is gathered in a buffer; one that does not fit makes the line too long.
-pub fn lengthen(line: &mut [u8], n: usize, b: u8) -> usize {
-    if n < line.len() {
-        line[n] = b;
-        n + 1
-    } else {
-        TOO_LONG
-    }
-}
-
-// What a gathered line of `n` bytes is.
-pub fn parse_gathered(line: &[u8], n: usize, text: &mut [u8], ids: &mut [u32; MAX_LIST]) -> Line {
-    if n <= line.len() {
-        parse_line(&line[..n], text, ids)
-    } else {
-        Line::Malformed
+        if line.starts_with(b"#") {
+            return Ok(Line::Blank);
+        }
+        let (before, quoted) = split_quoted(line)?;
+        let mut words = Words(before);
+        let Some(word) = words.next() else {
+            return match quoted {
+                None => Ok(Line::Blank),
+                Some(_) => Err(Malformed),
+            };
+        };
+        if let Some(quoted) = quoted {
+            return self.text_line(word, words, quoted);
+        }
+        match word {
+            b"fresh" => fresh_line(words),
+            b"setgroups" => self.groups_line(words),
+            _ => numbers_line(word, words),
+        }
     }
 }

@@ -1,93 +1,43 @@
 // A text in double quotes, with its escapes.
-use crate::tokens;
+ghost use Rattle.std.specs.Prelude.{◌<◌, length, IfOk};
 
-// What a text comes to: its length in the lent buffer, or no text.
-#[derive(Clone, Copy)]
-pub enum Text {
-    Length(usize),
-    Bad,
-}
-
-// One byte of a text and where the next one stands, the text's end, or no text.
-#[derive(Clone, Copy)]
-enum Byte {
-    At(u8, usize),
-    End,
-    Bad,
-}
+use crate::lines::{MAX_LINE, Malformed};
+use crate::words::in_base;
+use arrayvec::ArrayVec;
 
 // The byte that two hexadecimal digits give.
-fn by_number(line: &[u8], from: usize) -> Byte {
-    if line.len() < 2 {
-        return Byte::Bad;
-    }
-    if line.len() - 2 < from {
-        return Byte::Bad;
-    }
-    let high = tokens::digit(line[from]);
-    let low = tokens::digit(line[from + 1]);
-    if high > 15 {
-        return Byte::Bad;
-    }
-    if low > 15 {
-        return Byte::Bad;
-    }
-    Byte::At((high * 16 + low) as u8, from + 2)
+fn by_number(high: u8, low: u8) -> Result<u8, Malformed> {
+    let n = in_base(&[high, low], 16).ok_or(Malformed)?;
+    Ok(u8::try_from(n)?)
 }
 
-// The byte that an escape gives, from the place after the backslash.
-fn escape(line: &[u8], from: usize) -> Byte {
-    if line.len() <= from {
-        return Byte::Bad;
-    }
-    let after = from + 1;
-    match line[from] {
-        b'n' => Byte::At(b'\n', after),
-        b't' => Byte::At(b'\t', after),
-        b'\\' => Byte::At(b'\\', after),
-        b'"' => Byte::At(b'"', after),
-        b'x' => by_number(line, after),
-        _ => Byte::Bad,
+// The first byte of a text that does not end, and what stands behind it.
+fn first_byte(quoted: &[u8]) -> Result<(u8, &[u8]), Malformed>
+    ensures { IfOk result (λ first. length first.1.now < length quoted.now) }
+{
+    match quoted {
+        [b'\\', b'n', rest @ ..] => Ok((b'\n', rest)),
+        [b'\\', b't', rest @ ..] => Ok((b'\t', rest)),
+        [b'\\', b'x', high, low, rest @ ..] => Ok((by_number(*high, *low)?, rest)),
+        [b'\\', b @ (b'\\' | b'"'), rest @ ..] => Ok((*b, rest)),
+        [b'\\', ..] | [] => Err(Malformed),
+        [b, rest @ ..] => Ok((*b, rest)),
     }
 }
 
-// After its closing quote a text has spaces or nothing, up to the line's end.
-fn closed(line: &[u8], from: usize) -> Byte {
-    if tokens::skip_spaces(line, from) == line.len() {
-        Byte::End
+// Reads the text that stands behind an opening quote. After its closing quote it has spaces or nothing, up to the
+// line's end.
+pub fn read_text(quoted: &[u8], text: &mut ArrayVec<u8, MAX_LINE>) -> Result<(), Malformed> {
+    text.clear();
+    let mut left = quoted;
+    while !left.starts_with(b"\"") {
+        let (b, rest) = first_byte(left)?;
+        text.try_push(b)?;
+        left = rest;
+    }
+    if left[1..].iter().all(|b| *b == b' ') {
+        Ok(())
     } else {
-        Byte::Bad
+        Err(Malformed)
     }
-}
-
-fn next_byte(line: &[u8], from: usize) -> Byte {
-    if line.len() <= from {
-        return Byte::Bad;
-    }
-    let b = line[from];
-    match b {
-        b'"' => closed(line, from + 1),
-        b'\\' => escape(line, from + 1),
-        _ => Byte::At(b, from + 1),
-    }
-}
-
-// Reads the text whose first byte stands at `from`, and which ends the line, into the lent buffer.
-pub fn read_text(line: &[u8], from: usize, out: &mut [u8]) -> Text {
-    let mut at = from;
-    for n in 0..out.len() {
-        match next_byte(line, at) {
-            Byte::At(b, after) => {
-                out[n] = b;
-                at = after;
-            }
-            Byte::End => {
-                return Text::Length(n);
-            }
-            Byte::Bad => {
-                return Text::Bad;
-            }
-        }
-    }
-    Text::Bad
 }
