@@ -8,8 +8,13 @@ use crate::Line;
 // The columns of a number.
 const COLUMNS: usize = 10;
 
-// The bytes of the text of a line.
-pub const LINE_BYTES: usize = 33;
+// Where the second and the third number of a line start, one space after the number before.
+const PARENT_AT: usize = COLUMNS + 1;
+
+const COUNT_AT: usize = PARENT_AT + COLUMNS + 1;
+
+// The bytes of the text of a line, its newline the last.
+pub const LINE_BYTES: usize = COUNT_AT + COLUMNS + 1;
 
 // The last column of `v`, blank where nothing of the number is left.
 fn column(v: u32) -> u8
@@ -36,14 +41,12 @@ fn number_text(n: u32) -> [u8; COLUMNS]
 pub fn line_text(l: Line) -> [u8; LINE_BYTES]
     ensures { result ≡ line_text l }
 {
-    let a = number_text(l.inside);
-    let b = number_text(l.parent);
-    let c = number_text(l.count);
-    [
-        a[0], a[1], a[2], a[3], a[4], a[5], a[6], a[7], a[8], a[9], b' ', b[0], b[1], b[2], b[3],
-        b[4], b[5], b[6], b[7], b[8], b[9], b' ', c[0], c[1], c[2], c[3], c[4], c[5], c[6], c[7],
-        c[8], c[9], b'\n',
-    ]
+    let mut text = [b' '; LINE_BYTES];
+    text[..COLUMNS].copy_from_slice(&number_text(l.inside));
+    text[PARENT_AT..PARENT_AT + COLUMNS].copy_from_slice(&number_text(l.parent));
+    text[COUNT_AT..COUNT_AT + COLUMNS].copy_from_slice(&number_text(l.count));
+    text[LINE_BYTES - 1] = b'\n';
+    text
 }
 
 // Stores the text of a line from place `at` on and answers true. Where it does not fit, nothing changes and it answers

@@ -4,7 +4,7 @@ ghost use Rattle.journal.specs.Numbers.{number_at, numbers_at};
 ghost use Rattle.journal.specs.Layout.{form_of, fixed_bytes, call_by};
 ghost use Rattle.journal.specs.Reading.{leftover, text_bytes, id_count, buffer_length, names_in, numbers_in, stop_at, record_by, body_read, record_at, read_at, list_after};
 
-use crate::layout::{Form, Lent};
+use crate::layout::Lent;
 use crate::numbers::{name_at, number_at};
 use crate::{MAX_IDS, NAME_BYTES, NUMBER_BYTES, SIZE_BYTES, VERSION, layout, numbers};
 use calls::Call;
@@ -54,50 +54,60 @@ impl Stop {
 // What stands at an offset: a record, the journal's end, or a stop.
 pub type Read = Result<Option<Record>, Stopped>;
 
-// A name of a record, or 0 past the last.
-#[tactic(auto, using(crate::proofs::Gets::numbers_get, crate::proofs::Gets::numbers_past))]
-fn name_in(body: &[u8], form: Form, i: usize) -> u64
-    requires { fixed_bytes form ≤ length body.now }
-    ensures { result ≡ get_or (numbers_at 8 form.names 1 body.now) i 0 }
-{
-    if i < form.names {
-        name_at(body, 1 + NAME_BYTES * i)
-    } else {
-        0
-    }
+// A record's call, by the template of its call byte, and what stands in the record after its length, where all the
+// arguments of such a call have room.
+#[derive(Clone, Copy)]
+struct Body<'a> {
+    template: Call,
+    bytes: &'a [u8],
+    ghost whole: { fixed_bytes (form_of template) ≤ length bytes.now },
 }
 
-// Another number of a record, or 0 past the last.
-#[tactic(auto, using(crate::proofs::Gets::numbers_get, crate::proofs::Gets::numbers_past))]
-fn number_in(body: &[u8], form: Form, i: usize) -> u32
-    requires { fixed_bytes form ≤ length body.now }
-    ensures { result ≡ get_or (numbers_at 4 form.numbers (1 + form.names * 8) body.now) i 0 }
-{
-    if i < form.numbers {
-        number_at(body, 1 + form.names * NAME_BYTES + NUMBER_BYTES * i)
-    } else {
-        0
+impl Body<'_> {
+    // A name, or 0 past the last.
+    #[tactic(auto, using(crate::proofs::Gets::numbers_get, crate::proofs::Gets::numbers_past))]
+    fn name(&self, i: usize) -> u64
+        ensures { result ≡ get_or (names_in self.now.template self.now.bytes.now) i 0 }
+    {
+        if i < layout::form_of(self.template).names {
+            name_at(self.bytes, 1 + NAME_BYTES * i)
+        } else {
+            0
+        }
     }
-}
 
-// The call of a template, with the arguments that stand in a record after its length.
-#[tactic(auto, using(crate::proofs::Table::by_three))]
-fn call_in(c: Call, body: &[u8]) -> Call
-    requires { fixed_bytes (form_of c) ≤ length body.now }
-    ensures { result ≡ call_by c (names_in c body.now) (numbers_in c body.now) }
-{
-    let form = layout::form_of(c);
-    let names = [
-        name_in(body, form, 0),
-        name_in(body, form, 1),
-        name_in(body, form, 2),
-    ];
-    let numbers = [
-        number_in(body, form, 0),
-        number_in(body, form, 1),
-        number_in(body, form, 2),
-    ];
-    layout::call_by(c, &names, &numbers)
+    // Another number, or 0 past the last.
+    #[tactic(auto, using(crate::proofs::Gets::numbers_get, crate::proofs::Gets::numbers_past))]
+    fn number(&self, i: usize) -> u32
+        ensures { result ≡ get_or (numbers_in self.now.template self.now.bytes.now) i 0 }
+    {
+        let form = layout::form_of(self.template);
+        if i < form.numbers {
+            number_at(self.bytes, 1 + form.names * NAME_BYTES + NUMBER_BYTES * i)
+        } else {
+            0
+        }
+    }
+
+    // The call, with its arguments.
+    #[tactic(auto, using(crate::proofs::Table::by_three))]
+    fn call(&self) -> Call
+        ensures { result ≡ call_by self.now.template (names_in self.now.template self.now.bytes.now) (numbers_in self.now.template self.now.bytes.now) }
+    {
+        let names = [self.name(0), self.name(1), self.name(2)];
+        let numbers = [self.number(0), self.number(1), self.number(2)];
+        layout::call_by(self.template, &names, &numbers)
+    }
+
+    // The length of a read's buffer, which is its one number.
+    fn buffer_length(&self) -> u32
+        ensures { result ≡ buffer_length (form_of self.now.template).lent (numbers_in self.now.template self.now.bytes.now) }
+    {
+        match layout::form_of(self.template).lent {
+            Lent::Buffer => self.number(0),
+            Lent::Nothing | Lent::Text | Lent::Groups => 0,
+        }
+    }
 }
 
 // Whether bytes are left after a record's arguments: of a list those that are no whole ID.
@@ -129,18 +139,6 @@ fn id_count(lent: Lent, rest: usize) -> usize
     }
 }
 
-// The length of a read's buffer, which is its one number.
-fn buffer_length(c: Call, body: &[u8]) -> u32
-    requires { fixed_bytes (form_of c) ≤ length body.now }
-    ensures { result ≡ buffer_length (form_of c).lent (numbers_in c body.now) }
-{
-    let form = layout::form_of(c);
-    match form.lent {
-        Lent::Buffer => number_in(body, form, 0),
-        Lent::Nothing | Lent::Text | Lent::Groups => 0,
-    }
-}
-
 // The record at an offset, of a template's call, with what stands in it after its length.
 #[tactic(auto, using(std::proofs::lemmas::Bool::Decides::nat_tests), unfolding(crate::specs::Reading::record_by))]
 fn record_in(at: usize, body: &[u8], c: Call) -> Read
@@ -154,6 +152,10 @@ fn record_in(at: usize, body: &[u8], c: Call) -> Read
     if size < fixed {
         return Err(Stop::Short.at(at));
     }
+    let body = Body {
+        template: c,
+        bytes: body,
+    };
     let lent = layout::form_of(c).lent;
     let rest = size - fixed;
     // And nothing after them.
@@ -161,11 +163,11 @@ fn record_in(at: usize, body: &[u8], c: Call) -> Read
         return Err(Stop::Leftover.at(at));
     }
     Ok(Some(Record {
-        call: call_in(c, body),
+        call: body.call(),
         tail: at + SIZE_BYTES + fixed,
         text: text_bytes(lent, rest),
         ids: id_count(lent, rest),
-        buffer: buffer_length(c, body),
+        buffer: body.buffer_length(),
         next,
     }))
 }
