@@ -1,5 +1,5 @@
 // A process and its row of words.
-ghost use Rattle.std.specs.Prelude.{◌≡◌, length};
+ghost use Rattle.std.specs.Prelude.{◌≡◌, [], ◌∷◌};
 ghost use Rattle.records.specs.Records.{process_width, free_process, process_of, process_from};
 
 use crate::{GroupList, Ids, MAX_GROUPS, NO_GROUPS, Process, ZERO_IDS};
@@ -74,7 +74,14 @@ fn read_process(row: &[u64; PROCESS_WIDTH]) -> Process
     }
 }
 
-// The same IDs as words.
+// The three IDs of a kind as words.
+fn id_words(ids: Ids) -> [u64; IDS_WIDTH]
+    ensures { result ≡ ids.real ∷ ids.effective ∷ ids.saved ∷ [] }
+{
+    [ids.real as u64, ids.effective as u64, ids.saved as u64]
+}
+
+// The IDs of groups as words.
 fn group_words(ids: [u32; MAX_GROUPS]) -> [u64; MAX_GROUPS]
     ensures { result ≡ ids }
 {
@@ -85,39 +92,16 @@ fn group_words(ids: [u32; MAX_GROUPS]) -> [u64; MAX_GROUPS]
 pub fn process_words(p: Process) -> [u64; PROCESS_WIDTH]
     ensures { process_of result ≡ p }
 {
-    let u = p.users;
-    let g = p.groups;
-    let s = p.supplementary;
-    let l = group_words(s.ids);
-    [
-        p.live as u64,
-        p.namespace,
-        u.real as u64,
-        u.effective as u64,
-        u.saved as u64,
-        g.real as u64,
-        g.effective as u64,
-        g.saved as u64,
-        s.count,
-        l[0],
-        l[1],
-        l[2],
-        l[3],
-        l[4],
-        l[5],
-        l[6],
-        l[7],
-        l[8],
-        l[9],
-        l[10],
-        l[11],
-        l[12],
-        l[13],
-        l[14],
-        l[15],
-        p.permitted.bits,
-        p.effective.bits,
-    ]
+    let mut row = [0; PROCESS_WIDTH];
+    row[LIVE] = p.live as u64;
+    row[NAMESPACE] = p.namespace;
+    row[USERS..GROUPS].copy_from_slice(&id_words(p.users));
+    row[GROUPS..SUPPLEMENTARY].copy_from_slice(&id_words(p.groups));
+    row[SUPPLEMENTARY] = p.supplementary.count;
+    row[SUPPLEMENTARY + 1..PERMITTED].copy_from_slice(&group_words(p.supplementary.ids));
+    row[PERMITTED] = p.permitted.bits;
+    row[EFFECTIVE] = p.effective.bits;
+    row
 }
 
 // A record of no process.
