@@ -139,15 +139,17 @@ pub fn read_text(text: &[u8]) -> TextRead
     let mut lines = [NO_LINE; MAX_LINES];
     let mut count: usize = 0;
     let mut bytes: usize = 0;
-    while bytes < text.len() {
+    let mut rest = text;
+    while !rest.is_empty() {
         if count == MAX_LINES {
             return TextRead { map: None, bytes };
         }
-        match parse_line(&text[bytes..]) {
+        match parse_line(rest) {
             Ok((l, end)) => {
                 lines[count] = l;
                 count += 1;
                 bytes += end.bytes;
+                rest = &rest[end.bytes..];
             }
             Err(c) => {
                 return TextRead {
