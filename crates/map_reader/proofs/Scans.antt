@@ -1,6 +1,6 @@
 -- The scans of the reader, turn by turn, in the words of the code: each law's premises are what a place knows. Assumes
 -- nothing.
-use Rattle.std.proofs.Common.{◌≡◌, ℕ, ◌+◌, ◌-◌, ◌*◌, ◌^◌, ◌<◌, ◌≤◌, min, Bool, true, false, eqb, ltb, leb, List, [], ◌∷◌, length, get_or, drop, sym, refl, ap, ◌∙◌, true≢false, add-one, arith, drop_of_length-le, drop-cons, w64, Fits, ltb-false, ltb-true, le-ltb, lt-ltb, eq-eqb, ne_eqb, le-leb, leb-true, Result, Ok, Err}
+use Rattle.std.proofs.Common.{◌≡◌, ℕ, ◌+◌, ◌-◌, ◌*◌, ◌^◌, ◌<◌, ◌≤◌, min, Bool, true, false, eqb, ltb, leb, List, [], ◌∷◌, length, get_or, drop, sym, refl, ap, ◌∙◌, true≢false, add-one, arith, drop_of_length-le, drop-cons, w64, Fits, ltb-false, ltb-true, le-ltb, lt-ltb, eq-eqb, ne_eqb, le-leb, Result, Ok, Err}
 use borrow.Author.Tests.{lt-leb}
 use Rattle.idmap.specs.declared.Line.{Line}
 use Rattle.map_reader.specs.declared.text.Seen.{Seen}
@@ -8,7 +8,7 @@ use Rattle.idmap.specs.Good.{no_id}
 use Rattle.idmap.specs.Text.{is_blank, is_digit}
 use Rattle.idmap.specs.Scan.{skipped}
 use Rattle.map_reader.specs.Scan.{byte_at, see_of, seen_at, ended, number_from, number_at, field_at, line_end, then_number, scan_line}
-use Rattle.prelude.proofs.Tests.{by_test, cond_elim, both}
+use Rattle.prelude.proofs.Tests.{by_test, cond_elim}
 use Rattle.idmap.proofs.Scans as plain
 
 -- ---- a place that is seen
@@ -21,11 +21,11 @@ see_first s c e =
     (λ t. let h = ltb-true 0 (length s) t in let m : min (0 + 1) (length s) ≡ 1 = omega arith in rw (t, m))
     (λ t. let h = ltb-false 0 (length s) t in let m : min (0 + 1) (length s) ≡ 0 = omega arith in rw (t, m)))
 
-pub byte_in : (s : List ℕ) (at : ℕ) → at < length s → byte_at s at ≡ get_or s at 0
+byte_in : (s : List ℕ) (at : ℕ) → at < length s → byte_at s at ≡ get_or s at 0
 unfolding byte_at
 byte_in s at h = rw (lt-ltb at (length s) h)
 
-pub byte_end : (s : List ℕ) (at : ℕ) → length s ≤ at → byte_at s at ≡ 10
+byte_end : (s : List ℕ) (at : ℕ) → length s ≤ at → byte_at s at ≡ 10
 unfolding byte_at
 byte_end s at h = rw (le-ltb at (length s) h)
 
@@ -122,18 +122,6 @@ module _ (s : List ℕ) (at v i : ℕ) where
   number_end : length s ≤ i → number_from s at v i (drop i s) ≡ ended at (seen_at s i) v
   unfolding number_from
   number_end h = rw (drop_of_length-le s {i = i} h)
-
-module _ (c : ℕ) (t : Bool) (e : t ≡ is_digit c) (y : t ≡ true) where
-  digit_bounds : (48 ≤ c) × (c ≤ 57)
-  digit_bounds =
-      let h = both (leb 48 c) (leb c 57) (sym e ∙ y) in
-      (leb-true 48 c h.0, leb-true c 57 h.1)
-
-  pub digit_least : 48 ≤ c
-  digit_least = digit_bounds.0
-
-  pub digit_adds : (v : ℕ) → v ≤ no_id → Fits w64 (v * 10 + (c - 48))
-  digit_adds v small = let h = digit_bounds in omega arith
 
 module _ (s : List ℕ) (c : Seen) (seen : c ≡ seen_at s c.at) (at v : ℕ) (inv : number_at s at ≡ number_from s at v c.at (drop c.at s)) (t : Bool) (e : t ≡ is_digit c.byte) where
   module _ (y : t ≡ true) where

@@ -1,6 +1,6 @@
 -- The reader's loop over the lines of a text, turn by turn, in the words of the code: the lines are read as `idmap` reads
 -- them, and the bytes beside them. Assumes nothing.
-use Rattle.std.proofs.Common.{◌≡◌, ℕ, suc, ◌+◌, ◌-◌, ◌^◌, ◌<◌, ◌≤◌, true, false, List, [], ◌∷◌, length, take, drop, set, replicate, sym, refl, ap, ◌∙◌, arith, length-drop, drop_of_length-le, drop-drop, w64, Fits, Option, Some, None, Result, Ok, Err}
+use Rattle.std.proofs.Common.{◌≡◌, ℕ, suc, ◌+◌, ◌-◌, ◌^◌, ◌<◌, ◌≤◌, true, false, List, [], ◌∷◌, length, take, drop, set, replicate, sym, refl, ap, ◌∙◌, arith, length-drop, w64, Fits, Option, Some, None, Result, Ok, Err}
 use Rattle.prelude.proofs.Lists.{rest_is}
 use Rattle.idmap.specs.declared.Line.{Line}
 use Rattle.idmap.specs.declared.MapLines.{MapLines}

@@ -1,5 +1,5 @@
 -- `map_reader::text::read_text` meets its contract. Assumes nothing.
-use Rattle.std.proofs.Common.{◌≡◌, ◌<◌, ◌≤◌, length, refl, arith, rules}
+use Rattle.std.proofs.Common.{◌≡◌, ◌<◌, length, refl, arith, rules}
 use Rattle.idmap.proofs.Texts.{lines_start}
 use Rattle.prelude.proofs.Lists.{rest_empty}
 use Rattle.idmap.specs.Line.{no_line}
