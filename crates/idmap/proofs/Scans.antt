@@ -50,7 +50,7 @@ module _ (s : List ℕ) (v i : ℕ) where
   value_end h = rw (drop_of_length-le s {i = i} h)
 
 -- more digits make no number less
-value_le : (v : ℕ) (s : List ℕ) → v ≤ value v s
+pub value_le : (v : ℕ) (s : List ℕ) → v ≤ value v s
 unfolding value
 value_le v [] = omega arith
 value_le v (c ∷ s) =

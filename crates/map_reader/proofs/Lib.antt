@@ -1,5 +1,4 @@
 pub mod Scans
-pub mod FirstLine
+pub mod Same
 pub mod ReadOnce
 pub mod Texts
-pub mod Reading

@@ -8,26 +8,17 @@ ghost use Rattle.map_reader.specs.Reader.{lines_of};
 mod text;
 
 use crate::text::read_text;
-use idmap::text::Parsed;
-
-fn lines(parsed: Parsed) -> u64
-    ensures { result ≡ lines_of parsed }
-{
-    match parsed {
-        Parsed::Lines(n) => n as u64,
-        Parsed::Bad => 0,
-    }
-}
 
 // How many lines a map's text has, or 0 for a text that is no map's, and how many bytes were read of it.
 #[unsafe(no_mangle)]
 pub extern "C" fn oarhatchet_read_text(text: &[u8], bytes: &mut u64) -> u64
-    ensures value { result ≡ lines_of (text_read text.now).map.parsed }
+    ensures value { result ≡ lines_of (text_read text.now).map }
     ensures bytes_after { bytes.new ≡ (text_read text.now).bytes }
 {
     let read = read_text(text);
     *bytes = read.bytes as u64;
-    let map = read.map;
-    let parsed = map.parsed;
-    lines(parsed)
+    match read.map {
+        Some(m) => m.count as u64,
+        None => 0,
+    }
 }

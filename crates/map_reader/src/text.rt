@@ -1,53 +1,26 @@
 // The text of a map that is to be written: lines of three decimal numbers. Each byte is read once, by `see`, which counts
 // it.
 ghost use Rattle.std.specs.Prelude.{◌≡◌, ◌≤◌};
-ghost use Rattle.idmap.specs.Good.{no_id};
 ghost use Rattle.idmap.specs.Text.{is_blank, is_digit, map_lines, map_text};
 ghost use Rattle.idmap.specs.Scan.{skipped};
-ghost use Rattle.map_reader.specs.Scan.{see_of, seen_at, ended, no_number, number_at, field_at, no_line_at, line_end, scan_line, bad_text, text_read};
+ghost use Rattle.map_reader.specs.Scan.{see_of, seen_at, number_at, field_at, scan_line, text_read};
 
 use idmap::overlap::good;
-use idmap::text::{MapText, Parsed};
-use idmap::{Line, MAX_LINES, NO_ID};
+use idmap::{Line, MAX_LINES, MapLines, NO_ID, NO_LINE};
 
-// What a text says, and how many bytes were read of it.
+// The lines that a text says, if it is the text of a good map, and how many bytes were read of it.
 #[derive(Clone, Copy)]
 pub struct TextRead {
-    pub map: MapText,
+    pub map: Option<MapLines>,
     pub bytes: usize,
 }
 
 // A byte, where it stands, and how many bytes were read up to it. The text's end is seen as a newline.
+// A struct of this and the text, with `from ≡ seen_at s.now from.at` as its invariant, is proved but slower by a quarter.
 #[derive(Clone, Copy)]
 struct Seen {
     byte: u64,
     at: usize,
-    bytes: usize,
-}
-
-#[derive(Clone, Copy)]
-enum Number {
-    Value(u32),
-    NoNumber,
-}
-
-// A number, and the first byte after it; where there is none, the byte that shows it.
-#[derive(Clone, Copy)]
-struct NumberRead {
-    number: Number,
-    after: Seen,
-}
-
-#[derive(Clone, Copy)]
-enum LineParsed {
-    Numbers(Line),
-    NoLine,
-}
-
-// A line, and how many bytes were read for it.
-#[derive(Clone, Copy)]
-struct LineRead {
-    parsed: LineParsed,
     bytes: usize,
 }
 
@@ -75,6 +48,7 @@ fn is_digit(c: u64) -> bool
 }
 
 // Reads the byte at `at`, after so many bytes, and counts it. Nothing else reads a text.
+#[tactic(auto, unfolding(crate::specs::Scan::see_of, crate::specs::Scan::byte_at))]
 fn see(s: &[u8], at: usize, bytes: usize) -> Seen
     requires { bytes ≤ at }
     ensures { result ≡ see_of s.now at bytes }
@@ -82,14 +56,14 @@ fn see(s: &[u8], at: usize, bytes: usize) -> Seen
     if at < s.len() {
         Seen {
             byte: s[at] as u64,
-            at: at,
+            at,
             bytes: bytes + 1,
         }
     } else {
         Seen {
             byte: NEWLINE,
-            at: at,
-            bytes: bytes,
+            at,
+            bytes,
         }
     }
 }
@@ -106,33 +80,8 @@ fn skip(s: &[u8], from: Seen) -> Seen
     c
 }
 
-fn no_number(c: Seen) -> NumberRead
-    ensures { result ≡ no_number c }
-{
-    let number = Number::NoNumber;
-    NumberRead {
-        number: number,
-        after: c,
-    }
-}
-
-// The number `v`, read from `at` up to `c`.
-fn made(at: usize, c: Seen, v: u64) -> NumberRead
-    requires { v ≤ no_id }
-    ensures { result ≡ ended at c v }
-{
-    if c.at == at {
-        return no_number(c);
-    }
-    let number = Number::Value(v as u32);
-    NumberRead {
-        number: number,
-        after: c,
-    }
-}
-
-// The number that starts with `first`.
-fn digits(s: &[u8], first: Seen) -> NumberRead
+// The number that starts with `first`, and the first byte after it; where there is none, the byte that shows it.
+fn digits(s: &[u8], first: Seen) -> Result<(u32, Seen), Seen>
     requires { first ≡ seen_at s.now first.at }
     ensures { result ≡ number_at s.now first.at }
 {
@@ -141,96 +90,46 @@ fn digits(s: &[u8], first: Seen) -> NumberRead
     while is_digit(c.byte) {
         v = v * 10 + (c.byte - ZERO);
         if (NO_ID as u64) < v {
-            return no_number(c);
+            return Err(c);
         }
         c = see(s, c.at + 1, c.bytes);
     }
-    made(first.at, c, v)
+    if c.at == first.at {
+        return Err(c);
+    }
+    Ok((v as u32, c))
 }
 
 // The number after any blanks.
-fn field(s: &[u8], from: Seen) -> NumberRead
+#[tactic(auto, using(crate::proofs::Scans::skipped_seen, crate::proofs::Scans::field_is))]
+fn field(s: &[u8], from: Seen) -> Result<(u32, Seen), Seen>
     requires { from ≡ seen_at s.now from.at }
     ensures { result ≡ field_at s.now from.at }
 {
     digits(s, skip(s, from))
 }
 
-fn no_line(c: Seen) -> LineRead
-    ensures { result ≡ no_line_at c }
-{
-    let parsed = LineParsed::NoLine;
-    LineRead {
-        parsed: parsed,
-        bytes: c.bytes,
-    }
-}
-
-// The line `l`, if it ends with `c`.
-fn line_end(c: Seen, l: Line) -> LineRead
-    ensures { result ≡ line_end c l }
-{
-    if c.byte == NEWLINE {
-        let parsed = LineParsed::Numbers(l);
-        LineRead {
-            parsed: parsed,
-            bytes: c.bytes,
-        }
-    } else {
-        no_line(c)
-    }
-}
-
-// The line at the front of `s`, which is the part of a text that starts after the last newline read.
-fn parse_line(s: &[u8]) -> LineRead
+// The line at the front of `s`, which is the part of a text that starts after the last newline read, and the byte that
+// ends it; where there is none, the byte that shows it.
+#[tactic(auto, using(crate::proofs::Scans::see_first, crate::proofs::Scans::field_seen), unfolding(crate::specs::Scan::see_of, crate::specs::Scan::scan_line, crate::specs::Scan::line_end))]
+fn parse_line(s: &[u8]) -> Result<(Line, Seen), Seen>
     ensures { result ≡ scan_line s.now }
 {
-    let first = field(s, see(s, 0, 0));
-    let p = first.after;
-    let number = first.number;
-    let Number::Value(a) = number else {
-        return no_line(p);
-    };
-    let second = field(s, p);
-    let q = second.after;
-    let number = second.number;
-    let Number::Value(b) = number else {
-        return no_line(q);
-    };
-    let third = field(s, q);
-    let r = third.after;
-    let number = third.number;
-    let Number::Value(c) = number else {
-        return no_line(r);
-    };
-    line_end(
-        skip(s, r),
-        Line {
-            inside: a,
-            parent: b,
-            count: c,
-        },
-    )
-}
-
-// A text that is no map's, of which so many bytes were read.
-fn bad(bytes: usize) -> TextRead
-    ensures { result ≡ bad_text bytes }
-{
-    let parsed = Parsed::Bad;
-    let lines = [Line {
-        inside: 0,
-        parent: 0,
-        count: 0,
-    }; MAX_LINES];
-    let map = MapText {
-        parsed: parsed,
-        lines: lines,
-    };
-    TextRead {
-        map: map,
-        bytes: bytes,
+    let (inside, p) = field(s, see(s, 0, 0))?;
+    let (parent, q) = field(s, p)?;
+    let (count, r) = field(s, q)?;
+    let end = skip(s, r);
+    if end.byte != NEWLINE {
+        return Err(end);
     }
+    Ok((
+        Line {
+            inside,
+            parent,
+            count,
+        },
+        end,
+    ))
 }
 
 // The lines that a text says, if it is the text of a good map, and how many bytes were read: all of a good text, and
@@ -238,47 +137,41 @@ fn bad(bytes: usize) -> TextRead
 pub fn read_text(text: &[u8]) -> TextRead
     ensures { result ≡ text_read text.now }
 {
-    let mut lines = [Line {
-        inside: 0,
-        parent: 0,
-        count: 0,
-    }; MAX_LINES];
-    let mut n: usize = 0;
+    let mut lines = [NO_LINE; MAX_LINES];
+    let mut count: usize = 0;
     let mut bytes: usize = 0;
-    while bytes < text.len() {
-        if n == MAX_LINES {
-            return bad(bytes);
+    let mut rest = text;
+    while !rest.is_empty() {
+        if count == MAX_LINES {
+            return TextRead { map: None, bytes };
         }
-        let read = parse_line(&text[bytes..]);
-        bytes += read.bytes;
-        let parsed = read.parsed;
-        let LineParsed::Numbers(l) = parsed else {
-            return bad(bytes);
-        };
-        lines[n] = l;
-        n += 1;
-    }
-    if n == 0 {
-        return bad(bytes);
-    }
-    if good(lines, n) {
-        let map = MapText {
-            parsed: Parsed::Lines(n),
-            lines: lines,
-        };
-        TextRead {
-            map: map,
-            bytes: bytes,
+        match parse_line(rest) {
+            Ok((l, end)) => {
+                lines[count] = l;
+                count += 1;
+                bytes += end.bytes;
+                rest = &rest[end.bytes..];
+            }
+            Err(c) => {
+                return TextRead {
+                    map: None,
+                    bytes: bytes + c.bytes,
+                };
+            }
         }
+    }
+    let map = if count == 0 || !good(&lines[..count]) {
+        None
     } else {
-        bad(bytes)
-    }
+        Some(MapLines { count, lines })
+    };
+    TextRead { map, bytes }
 }
 
 // The lines alone.
-pub fn parse_map(text: &[u8]) -> MapText
+#[tactic(auto, unfolding(crate::specs::Scan::text_read))]
+pub fn parse_map(text: &[u8]) -> Option<MapLines>
     ensures { result ≡ map_text (map_lines text.now) }
 {
-    let read = read_text(text);
-    read.map
+    read_text(text).map
 }

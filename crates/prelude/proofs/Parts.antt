@@ -36,11 +36,11 @@ module _ {A : Type 0} (w at : ℕ) (l : List A) where
       let long : length (drop at l) ≡ length l - at = length-drop at l in
       let all : length (take (length l - from) (drop from l)) ≡ length l - from = simp (length-take, length-drop) (omega arith) in
       let same : drop from l ≡ drop at l = by_test (leb at (length l))
-          (λ t. let h = leb-true at (length l) t in let q : from ≡ at = omega arith in rw q)
-          (λ t. let h = leb-false at (length l) t in drop_of_length-le l {i = from} (omega arith) ∙ sym (drop_of_length-le l {i = at} (omega arith))) in
+      (λ t. let h = leb-true at (length l) t in let q : from ≡ at = omega arith in rw q)
+      (λ t. let h = leb-false at (length l) t in drop_of_length-le l {i = from} (omega arith) ∙ sym (drop_of_length-le l {i = at} (omega arith))) in
       rw same (ap (take n) (take_all (length l - from) (drop at l) (omega arith)) ∙ by_test (leb w (length l - from))
-          (λ t. let h = leb-true w (length l - from) t in let q : n ≡ w = omega arith in rw q)
-          (λ t. let h = leb-false w (length l - from) t in take_all n (drop at l) (omega arith) ∙ sym (take_all w (drop at l) (omega arith))))
+      (λ t. let h = leb-true w (length l - from) t in let q : n ≡ w = omega arith in rw q)
+      (λ t. let h = leb-false w (length l - from) t in take_all n (drop at l) (omega arith) ∙ sym (take_all w (drop at l) (omega arith))))
 
 -- two lists of one length that agree on the w places from at on have one part there
 part_agree : (w at : ℕ) (l l' : List ℕ) → length l ≡ length l' → ((j : ℕ) → j < w → get_or l (at + j) 0 ≡ get_or l' (at + j) 0)
