@@ -197,37 +197,26 @@ pub fn oarhatchet_capset(t: &mut Tables, caller: u64, permitted: u64, effective:
     code(credentials::capability_calls::drop(t, caller, permitted, effective))
 }
 
-// The words of own IDs: three user IDs, three group IDs, and as many places as there may be groups.
-pub const OWN_WORDS: usize = 6 + MAX_GROUPS;
+// Where the groups stand among the words of own IDs: after three user IDs and three group IDs.
+const GROUPS_AT: usize = 6;
+
+// The words of own IDs, with as many places as there may be groups.
+pub const OWN_WORDS: usize = GROUPS_AT + MAX_GROUPS;
 
 pub(crate) fn row(own: OwnIds) -> [u32; OWN_WORDS]
     ensures { result ≡ ids_row own }
 {
-    let ids = own.supplementary.ids;
-    [
+    let mut row = [0; OWN_WORDS];
+    row[..GROUPS_AT].copy_from_slice(&[
         own.users.real,
         own.users.effective,
         own.users.saved,
         own.groups.real,
         own.groups.effective,
         own.groups.saved,
-        ids[0],
-        ids[1],
-        ids[2],
-        ids[3],
-        ids[4],
-        ids[5],
-        ids[6],
-        ids[7],
-        ids[8],
-        ids[9],
-        ids[10],
-        ids[11],
-        ids[12],
-        ids[13],
-        ids[14],
-        ids[15],
-    ]
+    ]);
+    row[GROUPS_AT..].copy_from_slice(&own.supplementary.ids);
+    row
 }
 
 pub fn oarhatchet_getids(t: &Tables, caller: u64, ids: &mut [u32; OWN_WORDS]) -> u64
