@@ -4,7 +4,7 @@
 ghost use Rattle.std.specs.Prelude.{◌≡◌};
 ghost use Rattle.capability.specs.Sets.{holds, is_within, lowered_to};
 
-// Numbers of capabilities: capabilities(7).
+// Numbers of capabilities: capabilities(7). They are no enum, since a process may ask for any number: the answer is no.
 pub const CAP_SETGID: u32 = 6;
 
 pub const CAP_SETUID: u32 = 7;
@@ -32,7 +32,7 @@ impl CapabilitySet {
     pub fn new(bits: u64) -> Self
         ensures { result ≡ record { bits = bits } }
     {
-        CapabilitySet { bits: bits }
+        CapabilitySet { bits }
     }
 
     // Whether `capability` is in the set. No set has a capability above 63.

@@ -1,6 +1,7 @@
 // Every call, and the journal of calls, for programs in other languages: bindings/c/oarhatchet.h has the C names and
 // types. Tables cross as one pointer to the lent array, texts, lists and buffers as pointer and length, answers as
-// numbers.
+// numbers. C names a user's call and a group's each, and each way of a translation, so no function here is one over the
+// kind or the way.
 #![tactic(auto)]
 
 ghost use Rattle.std.specs.Prelude.{◌≡◌};

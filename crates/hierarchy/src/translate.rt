@@ -28,7 +28,8 @@ pub fn to_kernel(t: &Tables, kind: Kind, place: u64, id: u32) -> Option<u32>
     lookup_kernel(map_lines(t, place as usize, kind), id)
 }
 
-// The ID of a namespace that stands for a kernel ID. Linux: from_kuid, from_kgid.
+// The ID of a namespace that stands for a kernel ID. A function of its own: with the lookup as a parameter of one, two
+// names would still stand for two lookups. Linux: from_kuid, from_kgid.
 #[tactic(auto, unfolding(crate::specs::KernelStarts::from_kernel))]
 pub fn from_kernel(t: &Tables, kind: Kind, place: u64, id: u32) -> Option<u32>
     ensures { result ≡ from_kernel (tables_of t.now) kind place id }

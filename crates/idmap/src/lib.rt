@@ -52,7 +52,7 @@ pub const NO_LINE: Line = Line {
     count: 0,
 };
 
-// The lines of a map, in an array of as many as a map has: those past the first `count` are empty.
+// The lines of a map, in an array of as many as a map has, as there is no heap: those past the first `count` are empty.
 #[derive(Clone, Copy)]
 pub struct MapLines {
     pub count: usize,
@@ -68,7 +68,8 @@ impl MapLines {
 }
 
 // What a lookup answers: what the ID becomes, if a line holds it, and how many IDs, from this one to the end of its line,
-// translate by the same offset. Where the ID is unmapped there are none.
+// translate by the same offset. Where the ID is unmapped there are none: the count is told in both cases, so it stands
+// beside the ID and not within it.
 #[derive(Clone, Copy)]
 pub struct LookedUp {
     pub translated: Option<u32>,

@@ -1,5 +1,5 @@
 // The call bytes, and what a call's record has after its call byte: the table of docs/journal.md. A byte that is given
-// never changes.
+// never changes. They are bytes and no enum, since C names them so, and a journal may have any byte where one stands.
 ghost use Rattle.std.specs.Prelude.{◌≡◌};
 ghost use Rattle.journal.specs.Layout.{by_kind, by_way, byte_of, template_of, form_by, form_of, fixed_bytes, names_of, numbers_of, first_three, call_by};
 

@@ -62,6 +62,7 @@ fn bytes_at<const W: usize>(s: &[u8], at: usize) -> [u8; W]
     bytes
 }
 
+// One function for each width: from_be_bytes belongs to each type, so a trait would have these three bodies too.
 // The length of two bytes at a place.
 #[tactic(auto, using(crate::proofs::Gets::size_read))]
 pub(crate) fn size_at(s: &[u8], at: usize) -> usize

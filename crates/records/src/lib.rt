@@ -27,7 +27,8 @@ pub struct Ids {
     pub saved: u32,
 }
 
-// The supplementary groups of a process, kernel IDs: the first `count` of `ids`.
+// The supplementary groups of a process, kernel IDs: the first `count` of `ids`. There is no heap, and a row's count may
+// be any number, so this is no list of at most 16.
 #[derive(Clone, Copy)]
 pub struct GroupList {
     pub count: u64,
@@ -46,6 +47,8 @@ pub const NO_GROUPS: GroupList = GroupList {
     ids: [0; MAX_GROUPS],
 };
 
+// A process, or that the place has none: `live` stands beside the fields and is no Option, since the definition
+// `process_of` reads each row as a record, a free one too.
 #[derive(Clone, Copy)]
 pub struct Process {
     pub live: bool,
@@ -57,13 +60,14 @@ pub struct Process {
     pub effective: CapabilitySet,
 }
 
-// A map: with how many lines it is written, if it is, and the lines.
+// A map: with how many lines it is written, if it is, and the lines, in an array since there is no heap.
 #[derive(Clone, Copy)]
 pub struct IdMap {
     pub state: Option<usize>,
     pub lines: [Line; MAX_LINES],
 }
 
+// A namespace, or that the place has none, as for a process: `namespace_of`.
 #[derive(Clone, Copy)]
 pub struct Namespace {
     pub live: bool,

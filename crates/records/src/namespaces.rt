@@ -103,6 +103,7 @@ pub fn map_words(m: IdMap, kernel: [u32; MAX_LINES]) -> [u64; MAP_WIDTH]
     ensures written { map_of result ≡ m }
     ensures kept { starts_in result ≡ kernel }
 {
+    // By name: that `as_flattened` of an array made by `from_fn` is these words was not proved.
     let a = line_words(m.lines[0], kernel[0]);
     let b = line_words(m.lines[1], kernel[1]);
     let c = line_words(m.lines[2], kernel[2]);
@@ -196,7 +197,8 @@ pub fn free_namespace() -> Namespace
     }
 }
 
-// The record that a row holds. A row of another length holds none.
+// The record that a row holds. A row of another length holds none. It is no function generic over the two records: a
+// trait's members, the width, the reading and the free record, would be all of what it does.
 #[tactic(auto, unfolding(crate::specs::Records::namespace_from))]
 pub fn namespace_of(row: &[u64]) -> Namespace
     ensures { result ≡ namespace_from row.now }

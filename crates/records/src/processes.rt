@@ -46,6 +46,7 @@ fn read_process(row: &[u64; PROCESS_WIDTH]) -> Process
         },
         supplementary: GroupList {
             count: row[SUPPLEMENTARY],
+            // By name: 16 calls of `from_fn` or `map` are more than is found.
             ids: [
                 low(row[SUPPLEMENTARY + 1]),
                 low(row[SUPPLEMENTARY + 2]),

@@ -1,7 +1,8 @@
 // What a call answers: document 01's answers but a process's own IDs, which have a type of their own, and its refusals
 // under Linux' names.
+
 // The refusals, with their numbers.
-#[derive(Clone, Copy)]
+#[derive(Clone, Copy, Debug)]
 pub enum Errno {
     EPERM = 1,
     ESRCH = 3,
