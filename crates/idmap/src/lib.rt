@@ -67,9 +67,9 @@ impl MapLines {
     }
 }
 
-// What a lookup answers: what the ID becomes, if a line holds it, and how many IDs, from this one to the end of its line,
-// translate by the same offset. Where the ID is unmapped there are none: the count is told in both cases, so it stands
-// beside the ID and not within it.
+// What a lookup answers: what the ID becomes, if a line holds it, and how many IDs, from this one to the end of its
+// line, translate by the same offset. Where the ID is unmapped there are none: the count is told in both cases, so it
+// stands beside the ID and not within it.
 #[derive(Clone, Copy)]
 pub struct LookedUp {
     pub translated: Option<u32>,

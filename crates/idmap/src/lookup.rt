@@ -36,8 +36,8 @@ fn held(l: Line, id: u32) -> LookedUp
     }
 }
 
-// What the first line that holds `id` in one column answers: the ID in the other, and how many IDs, from this one to the
-// end of the line, translate by the same offset. Where no line holds `id`, it is unmapped, and there are none.
+// What the first line that holds `id` in one column answers: the ID in the other, and how many IDs, from this one to
+// the end of the line, translate by the same offset. Where no line holds `id`, it is unmapped, and there are none.
 fn lookup(words: &[u64], id: u32, from: usize, to: usize) -> LookedUp
     requires { (from < line_words) × (to < line_words) }
     ensures { result ≡ lookup_of (lines_by from to words.now) id }

@@ -84,8 +84,8 @@ fn line_end(s: &[u8], e: usize, l: Line) -> Option<(Line, usize)>
     }
 }
 
-// The line at the front of `s`, which is the part of a text that starts after the last newline read, and how many bytes it
-// takes.
+// The line at the front of `s`, which is the part of a text that starts after the last newline read, and how many bytes
+// it takes.
 #[tactic(auto, unfolding(crate::specs::Scan::scan_line))]
 fn parse_line(s: &[u8]) -> Option<(Line, usize)>
     ensures { result ≡ scan_line s.now }

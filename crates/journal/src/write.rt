@@ -71,9 +71,9 @@ fn put_record(buffer: &mut [u8], at: usize, size: usize, c: Call, beside: &Besid
     put_tail(buffer, tail, form.lent, beside);
 }
 
-// Writes the record of a call, with what is lent beside it, into a buffer from a place on, and answers how many bytes it
-// has, or why none was written. Ruled out, for instance: a record's first bytes where the whole does not fit; a length
-// that is cut off at two bytes.
+// Writes the record of a call, with what is lent beside it, into a buffer from a place on, and answers how many bytes
+// it has, or why none was written. Ruled out, for instance: a record's first bytes where the whole does not fit; a
+// length that is cut off at two bytes.
 #[tactic(auto, using(std::proofs::lemmas::Bool::Decides::nat_tests, crate::proofs::Layouts::few_names, crate::proofs::Layouts::few_numbers, crate::proofs::Writes::body_size, crate::proofs::Writes::record_size), unfolding(crate::specs::Journal::write_of))]
 pub fn write_record(c: Call, beside: &Beside, buffer: &mut [u8], at: usize) -> Result<usize, Errno>
     ensures answer { result ≡ write_of c beside.now.text.now beside.now.list.now beside.now.buffer_length buffer.old at }

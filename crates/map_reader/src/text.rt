@@ -1,5 +1,5 @@
-// The text of a map that is to be written: lines of three decimal numbers. Each byte is read once, by `see`, which counts
-// it.
+// The text of a map that is to be written: lines of three decimal numbers. Each byte is read once, by `see`, which
+// counts it.
 ghost use Rattle.std.specs.Prelude.{◌≡◌, ◌≤◌};
 ghost use Rattle.idmap.specs.Text.{is_blank, is_digit, map_lines, map_text};
 ghost use Rattle.idmap.specs.Scan.{skipped};
@@ -16,7 +16,8 @@ pub struct TextRead {
 }
 
 // A byte, where it stands, and how many bytes were read up to it. The text's end is seen as a newline.
-// A struct of this and the text, with `from ≡ seen_at s.now from.at` as its invariant, is proved but slower by a quarter.
+// A struct of this and the text, with `from ≡ seen_at s.now from.at` as its invariant, is proved but slower by a
+// quarter.
 #[derive(Clone, Copy)]
 struct Seen {
     byte: u64,

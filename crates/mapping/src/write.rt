@@ -156,9 +156,9 @@ fn write_to(t: &mut Tables, kind: Kind, w: Process, n: u64, text: &[u8]) -> Resu
 // Writes the map of a kind of the namespace that process `name` is in. Refuses: 3 no caller or no such process; 1 the
 // target is the initial namespace, or the writer is neither in it nor in its parent; 22 a text of 0 or over 4,095
 // bytes; 1 already written; 1 without SETUID (SETGID) in the target; 22 bad text; 1 without the capability in the
-// parent where the text is no single line of the writer's own; 1 a line whose parent side does not lie whole in one line
-// of the parent's map. Ruled out, for instance: a map stored with IDs that the parent does not map; an empty text told
-// before a writer from elsewhere.
+// parent where the text is no single line of the writer's own; 1 a line whose parent side does not lie whole in one
+// line of the parent's map. Ruled out, for instance: a map stored with IDs that the parent does not map; an empty text
+// told before a writer from elsewhere.
 #[tactic(auto, unfolding(crate::specs::Calls::write_map_of))]
 pub fn write_map(
     t: &mut Tables,

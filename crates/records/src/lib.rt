@@ -27,8 +27,8 @@ pub struct Ids {
     pub saved: u32,
 }
 
-// The supplementary groups of a process, kernel IDs: the first `count` of `ids`. There is no heap, and a row's count may
-// be any number, so this is no list of at most 16.
+// The supplementary groups of a process, kernel IDs: the first `count` of `ids`. There is no heap, and a row's count
+// may be any number, so this is no list of at most 16.
 #[derive(Clone, Copy)]
 pub struct GroupList {
     pub count: u64,

@@ -57,8 +57,8 @@ impl<W: Write> Replay<'_, W> {
         Ok(None)
     }
 
-    // Reads the input to its end or to a stop. Nothing says that it has an end, so the turns are counted; 2 to the 64 of
-    // them never come.
+    // Reads the input to its end or to a stop. Nothing says that it has an end, so the turns are counted; 2 to the 64
+    // of them never come.
     fn serve<R: Read>(&mut self, from: &mut R) -> io::Result<Option<Stopped>> {
         for _ in 0..u64::MAX {
             let n = self.window.read_on(from)?;

@@ -1,5 +1,5 @@
-// Rows of a lent array: the one store of values into a part of an array, for every table, text and list, and the part that
-// a row is read from.
+// Rows of a lent array: the one store of values into a part of an array, for every table, text and list, and the part
+// that a row is read from.
 #![tactic(auto)]
 
 ghost use Rattle.std.specs.Prelude.{◌≡◌};

@@ -58,8 +58,8 @@ impl TryFrom<u64> for BufferLength {
     }
 }
 
-// What a line lends to its call: a text and a list, which are empty where it has none, and how long the buffer of a read
-// is.
+// What a line lends to its call: a text and a list, which are empty where it has none, and how long the buffer of a
+// read is.
 #[derive(Clone, Copy)]
 pub struct Lent<'a> {
     pub text: &'a [u8],

@@ -47,8 +47,8 @@ pub fn named_process(t: &Tables, caller: usize, name: u64) -> Option<usize>
     find_caller(t, name)
 }
 
-// The place of the namespace that the process at `caller` names. Every caller may name every namespace. Neither this nor
-// the search below is generic over the two tables: a trait's members would be all of what they do.
+// The place of the namespace that the process at `caller` names. Every caller may name every namespace. Neither this
+// nor the search below is generic over the two tables: a trait's members would be all of what they do.
 #[tactic(auto, unfolding(crate::specs::Find::namespace_named))]
 pub fn named_namespace(t: &Tables, caller: usize, name: u64) -> Option<usize>
     ensures { result ≡ namespace_named (tables_of t.now) caller name }

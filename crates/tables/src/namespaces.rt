@@ -70,7 +70,8 @@ pub fn deny_put(t: &mut Tables, place: usize, deny: bool)
     }
 }
 
-// The written lines of a namespace's map of a kind and their kernel starts, as the words that hold them where they stand.
+// The written lines of a namespace's map of a kind and their kernel starts, as the words that hold them where they
+// stand.
 pub fn map_lines(t: &Tables, place: usize, kind: Kind) -> &[u64]
     ensures { LinesOf result.now (map_in kind (namespace_at (tables_of t.now) place)) (starts_at (tables_of t.now) kind place) }
 {
