@@ -1,4 +1,6 @@
 // Answers as text.
+ghost use Rattle.std.specs.Prelude.{◌≡◌, take, length, IfSome};
+
 use calls::Response;
 use credentials::own::OwnIds;
 use records::Ids;
@@ -92,8 +94,10 @@ impl fmt::Display for Answered {
     }
 }
 
-// The text that a read put into its buffer, if the answer is one of a read.
-pub fn text_read(answer: Result<Response, Errno>, buffer: &[u8]) -> Option<&[u8]> {
+// The text that a read put at the front of its buffer, if the answer is one of a read.
+pub fn text_read(answer: Result<Response, Errno>, buffer: &[u8]) -> Option<&[u8]>
+    ensures { IfSome result (λ text. text.now ≡ take (length text.now) buffer.now) }
+{
     match answer {
         Ok(Response::Plain(Answer::Length(length))) => buffer.get(..length),
         _ => None,

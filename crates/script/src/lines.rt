@@ -1,5 +1,5 @@
 // A line of a script: what it is, with what it lends to its call.
-ghost use Rattle.std.specs.Prelude.{◌≤◌};
+ghost use Rattle.std.specs.Prelude.{◌≡◌, ◌≤◌, ◌<◌, [], length, IsErr};
 
 use crate::words::{Words, number};
 use crate::{commands, texts};
@@ -132,7 +132,10 @@ pub struct Parser {
 }
 
 impl Parser {
-    pub fn new() -> Parser {
+    // One that holds nothing.
+    pub fn new() -> Parser
+        ensures { (result.text.items ≡ []) × (result.list.items ≡ []) }
+    {
         Parser {
             text: ArrayVec::new(),
             list: ArrayVec::new(),
@@ -172,7 +175,9 @@ impl Parser {
     }
 
     // What a line is.
-    pub fn parse(&mut self, line: &[u8]) -> Result<Line<'_>, Malformed> {
+    pub fn parse(&mut self, line: &[u8]) -> Result<Line<'_>, Malformed>
+        ensures { 65536 < length line.now → IsErr result }
+    {
         if line.len() > MAX_LINE {
             return Err(Malformed);
         }

@@ -1,4 +1,6 @@
 // Output, gathered in a buffer that is written when it is full.
+ghost use Rattle.std.specs.Prelude.{◌≡◌, []};
+
 use arrayvec::ArrayVec;
 use std::io;
 use std::io::Write;
@@ -14,7 +16,10 @@ pub struct Output<W> {
 }
 
 impl<W: Write> Output<W> {
-    pub fn new(to: W) -> Output<W> {
+    // Nothing is held at first.
+    pub fn new(to: W) -> Output<W>
+        ensures { result.held.items ≡ [] }
+    {
         Output {
             to,
             held: ArrayVec::new(),
