@@ -8,6 +8,8 @@ use lib.Dec.{eqb}
 use lib.ListN.{length, length-set}
 use borrow.Author.Tests.{eqb-true}
 use Rattle.idmap.specs.declared.Line.{Line}
+use Rattle.records.specs.declared.MapState.{MapState}
+use Rattle.records.specs.declared.MapState.TheVariants.{Unwritten, Written}
 use Rattle.records.specs.declared.Kind.{Kind}
 use Rattle.records.specs.declared.Kind.TheVariants.{Group}
 use Rattle.records.specs.declared.Process.{Process}
@@ -111,9 +113,9 @@ module _ (s : State) (isP isN : ℕ → Bool) (place up level : ℕ → ℕ) (ma
 lines_of_lem : (m : IdMap) → or_none (written_in m) ≡ lines_of m
 lines_of_lem m = by_state m.state m.lines
   where
-    by_state : (t : Option ℕ) (ls : List Line) → or_none (if_written t ls) ≡ lines_if t ls
-    by_state None ls = refl
-    by_state (Some n) ls = refl
+    by_state : (t : MapState) (ls : List Line) → or_none (if_written t ls) ≡ lines_if t ls
+    by_state Unwritten ls = refl
+    by_state (Written n) ls = refl
 
 pub lines_agree : (s : State) (h : List Event) → Agreed s h → (k : Kind) (n : ℕ) → lines_of (map_in k (namespace_at s n)) ≡ written_lines k h n
 lines_agree s h a k n = sym (lines_of_lem (map_in k (namespace_at s n))) ∙ ap or_none (a.namespace_map k n)

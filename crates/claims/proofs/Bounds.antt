@@ -16,6 +16,7 @@ use Rattle.idmap.specs.Good.{max_lines}
 use Rattle.idmap.specs.Ranges.{lies_whole, HasLine}
 use Rattle.idmap.proofs.Goodness.{good_means}
 use Rattle.idmap.proofs.Ranges.{whole_has_line}
+use Rattle.records.specs.declared.MapState.TheVariants.{Unwritten, Written}
 use Rattle.records.specs.declared.Kind.{Kind}
 use Rattle.records.specs.declared.Process.{Process}
 use Rattle.records.specs.Records.{map_in}
@@ -142,18 +143,18 @@ module _ (s : State) (h : List Event) (a : Agreed s h) (d : SoundAt h) where
         ((λ e. walk_rules (height_of s n) n e), (λ r. rules_walk (height_of s n) n t (let g = height_is n in omega arith) r))
 
   -- ---- what stands in the tables
-  counts : (o : Option (List Line)) (c : ℕ) → Counted o → state_for o ≡ Some c → (1 ≤ c) × (c ≤ max_lines) × (length (or_none o) ≡ c)
+  counts : (o : Option (List Line)) (c : ℕ) → Counted o → state_for o ≡ Written c → (1 ≤ c) × (c ≤ max_lines) × (length (or_none o) ≡ c)
   counts None c b e = absurd (let z : ◌≡◌ {A = ℕ} 0 1 = cc in omega arith)
   counts (Some ls) c b e = let f : length ls ≡ c = cc in (omega (arith, b.0), omega (arith, b.1), f)
 
-  line_counts : (k : Kind) (n c : ℕ) → (map_in k (namespace_at s n)).state ≡ Some c → (1 ≤ c) × (c ≤ max_lines) × (length (lines_at s k n) ≡ c)
+  line_counts : (k : Kind) (n c : ℕ) → (map_in k (namespace_at s n)).state ≡ Written c → (1 ≤ c) × (c ≤ max_lines) × (length (lines_at s k n) ≡ c)
   line_counts k n c e = rw (lines_agree s h a k n) (counts (written_of k h n) c (d.counted k n) (sym (a.namespace_state k n) ∙ e))
 
   lines_whole : (k : Kind) (n : ℕ) → all_whole (lies_whole (lines_at s k (namespace_at s n).parent)) (lines_at s k n) ≡ true
   lines_whole k n =
       rw (lines_agree s h a k (namespace_at s n).parent ∙ ap (written_lines k h) (a.namespace_parent n), lines_agree s h a k n) (d.whole k n)
 
-  unwritten_none : (o : Option (List Line)) → state_for o ≡ None → o ≡ None
+  unwritten_none : (o : Option (List Line)) → state_for o ≡ Unwritten → o ≡ None
   unwritten_none None e = refl
   unwritten_none (Some ls) e = absurd (let z : ◌≡◌ {A = ℕ} 0 1 = cc in omega arith)
 

@@ -16,6 +16,8 @@ use Rattle.idmap.specs.Good.{max_lines, good_of}
 use Rattle.idmap.specs.Lookup.{or_no_id}
 use Rattle.idmap.specs.Ranges.{lies_whole}
 use Rattle.idmap.specs.Text.{map_lines, padded}
+use Rattle.records.specs.declared.MapState.{MapState}
+use Rattle.records.specs.declared.MapState.TheVariants.{Unwritten, Written}
 use Rattle.records.specs.declared.Kind.{Kind}
 use Rattle.records.specs.declared.Kind.TheVariants.{User, Group}
 use Rattle.records.specs.declared.Namespace.{Namespace}
@@ -89,9 +91,9 @@ some_lines text ls e = (subst Counted e (map_lines_counted text)).0
 unwritten_is : (m : IdMap) → is_written m.state ≡ false → written_in m ≡ None
 unwritten_is m e = by_state m.state e
   where
-    by_state : (t : Option ℕ) → is_written t ≡ false → if_written t m.lines ≡ None
-    by_state None e = refl
-    by_state (Some n) e = absurd (true≢false e)
+    by_state : (t : MapState) → is_written t ≡ false → if_written t m.lines ≡ None
+    by_state Unwritten e = refl
+    by_state (Written n) e = absurd (true≢false e)
 
 module _ (by : Translation) (s : State) (h : List Event) (a : Agreed s h) (b : Beside s h) (d : SoundAt h) (o : by ≡ by_history h) (text list : List ℕ) where
   -- the namespace of a process that is named

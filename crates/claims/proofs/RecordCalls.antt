@@ -9,6 +9,8 @@ use lib.ListN.{length}
 use Rattle.std.specs.Prelude.{Some, None, Ok, Err}
 use Rattle.prelude.specs.Lists.{tab}
 use Rattle.idmap.specs.Good.{max_lines}
+use Rattle.records.specs.declared.MapState.{MapState}
+use Rattle.records.specs.declared.MapState.TheVariants.{Unwritten, Written}
 use Rattle.records.specs.declared.IdMap.{IdMap}
 use Rattle.records.specs.Records.{map_in, lines_of}
 use Rattle.tables.specs.Tables.{State, tables_of, namespace_at}
@@ -72,9 +74,9 @@ from_fits zero l at = tt
 from_fits (suc n) l at = on_fits l at (read_at l at) refl (λ (next : ℕ). read_from n l next) (λ next. from_fits n l next)
 
 -- ---- the maps that calls leave have few lines
-few_by : (x : Option ℕ) (m : IdMap) → m.state ≡ x → ((c : ℕ) → m.state ≡ Some c → (1 ≤ c) × (c ≤ max_lines) × (length (lines_of m) ≡ c)) → length (lines_of m) ≤ max_lines
-few_by None m e h = rw e (omega arith)
-few_by (Some c) m e h = let k = h c e in omega (arith, k)
+few_by : (x : MapState) (m : IdMap) → m.state ≡ x → ((c : ℕ) → m.state ≡ Written c → (1 ≤ c) × (c ≤ max_lines) × (length (lines_of m) ≡ c)) → length (lines_of m) ≤ max_lines
+few_by Unwritten m e h = rw e (omega arith)
+few_by (Written c) m e h = let k = h c e in omega (arith, k)
 
 few_lines : (rs : List Request) → Bounds rs → FewLines (run rs)
 few_lines rs b k n = let m = map_in k (namespace_at (run rs) n) in few_by m.state m refl (λ c e. b.line_counts k n c e)

@@ -8,6 +8,7 @@ use native.Mathlib.Omega.{arith}
 use lib.Dec.{eqb}
 use lib.ListN.{length, get_or, replicate, length-replicate}
 use borrow.Author.Tests.{eqb-true}
+use Rattle.records.specs.declared.MapState.TheVariants.{Unwritten}
 use Rattle.records.specs.declared.Kind.{Kind}
 use Rattle.records.specs.declared.Kind.TheVariants.{User, Group}
 use Rattle.records.specs.declared.Process.{Process}
@@ -39,7 +40,7 @@ free_map_lem : (k : Kind) → written_in (map_in k free_namespace) ≡ None
 free_map_lem User = refl
 free_map_lem Group = refl
 
-free_state : (k : Kind) → (map_in k free_namespace).state ≡ None
+free_state : (k : Kind) → (map_in k free_namespace).state ≡ Unwritten
 free_state User = refl
 free_state Group = refl
 
@@ -69,7 +70,7 @@ unfolding written_of
 root_map User i = refl
 root_map Group i = refl
 
-root_state : (k : Kind) (i : ℕ) → cond (eqb i 0) (map_in k root_namespace).state None ≡ state_for (written_of k [] i)
+root_state : (k : Kind) (i : ℕ) → cond (eqb i 0) (map_in k root_namespace).state Unwritten ≡ state_for (written_of k [] i)
 unfolding written_of
 root_state User i = by_test (eqb i 0) (λ t. rw t) (λ t. rw t)
 root_state Group i = by_test (eqb i 0) (λ t. rw t) (λ t. rw t)

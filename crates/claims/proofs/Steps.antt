@@ -12,6 +12,7 @@ use lib.ListN.{length}
 use borrow.Author.Tests.{eqb-true, eqb-false, leb-false}
 use Rattle.capability.specs.Sets.{cap_sys_admin}
 use Rattle.idmap.specs.declared.Line.{Line}
+use Rattle.records.specs.declared.MapState.TheVariants.{Unwritten}
 use Rattle.records.specs.declared.Kind.{Kind}
 use Rattle.records.specs.declared.Kind.TheVariants.{User, Group}
 use Rattle.records.specs.declared.Process.{Process}
@@ -83,7 +84,7 @@ module _ (by : Translation) (s : State) (h : List Event) (a : Agreed s h) (b : B
   fresh_map User p n = refl
   fresh_map Group p n = refl
 
-  fresh_state : (k : Kind) (p : Process) (n : Namespace) → (map_in k (below p n)).state ≡ None
+  fresh_state : (k : Kind) (p : Process) (n : Namespace) → (map_in k (below p n)).state ≡ Unwritten
   unfolding below
   fresh_state User p n = refl
   fresh_state Group p n = refl

@@ -1,6 +1,8 @@
 -- The tables give what the history gives. Assumes nothing.
 use Rattle.std.specs.Prelude.{ℕ, ◌≡◌, Bool, List, [], length, take, Option, Some, None}
 use Rattle.idmap.specs.declared.Line.{Line}
+use Rattle.records.specs.declared.MapState.{MapState}
+use Rattle.records.specs.declared.MapState.TheVariants.{Unwritten, Written}
 use Rattle.records.specs.declared.Kind.{Kind}
 use Rattle.records.specs.declared.Kind.TheVariants.{User, Group}
 use Rattle.records.specs.declared.Process.{Process}
@@ -20,17 +22,17 @@ abbrev pub held_in : Kind → Process → Held
 held_in k p = record { three = ids_in k p; supplementary = supplementary_in k p }
 
 -- a map's record: unwritten, or written with its lines
-abbrev pub if_written : Option ℕ → List Line → Option (List Line)
-if_written None ls = None
-if_written (Some n) ls = Some (take n ls)
+abbrev pub if_written : MapState → List Line → Option (List Line)
+if_written Unwritten ls = None
+if_written (Written n) ls = Some (take n ls)
 
 abbrev pub written_in : IdMap → Option (List Line)
 written_in m = if_written m.state m.lines
 
 -- how the record says so: unwritten, or written with as many lines
-abbrev pub state_for : Option (List Line) → Option ℕ
-state_for None = None
-state_for (Some ls) = Some (length ls)
+abbrev pub state_for : Option (List Line) → MapState
+state_for None = Unwritten
+state_for (Some ls) = Written (length ls)
 
 -- the tables of all places, in each of which the process or the namespace of its number stands: exactly those are live
 -- that are processes and namespaces, each process has its namespace and its IDs of both kinds, each namespace its

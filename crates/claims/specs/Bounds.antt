@@ -6,6 +6,7 @@ use Rattle.capability.specs.Sets.{holds}
 use Rattle.idmap.specs.declared.Line.{Line}
 use Rattle.idmap.specs.Good.{max_lines, no_id, Good}
 use Rattle.idmap.specs.Ranges.{lies_whole, HasLine}
+use Rattle.records.specs.declared.MapState.TheVariants.{Unwritten, Written}
 use Rattle.records.specs.declared.Kind.{Kind}
 use Rattle.records.specs.declared.Process.{Process}
 use Rattle.records.specs.Records.{map_in, lines_of, max_groups}
@@ -59,7 +60,7 @@ module _ (rs : List Request) where
     pub carried_ids : (k : Kind) (i y : ℕ) → Has y (held (held_in k (process_at s i))) → y < no_id
     pub group_count : (i : ℕ) → (process_at s i).supplementary.count ≤ max_groups
     -- a written map has one to five lines, as many as its record says
-    pub line_counts : (k : Kind) (n c : ℕ) → (map_in k (namespace_at s n)).state ≡ Some c → (1 ≤ c) × (c ≤ max_lines) × (length (lines_at s k n) ≡ c)
+    pub line_counts : (k : Kind) (n c : ℕ) → (map_in k (namespace_at s n)).state ≡ Written c → (1 ≤ c) × (c ≤ max_lines) × (length (lines_at s k n) ≡ c)
     -- each of them is bounded, and no two overlap on either side
     pub lines_good : (k : Kind) (n : ℕ) → Good (lines_at s k n)
     -- document 02, L6: the parent side of each of them lies whole in one line of the parent's map
@@ -67,5 +68,5 @@ module _ (rs : List Request) where
     -- so each single parent-side ID has a line in the parent's map
     pub covered : (k : Kind) (n z : ℕ) → OnParentSide (lines_at s k n) z → HasLine (lines_at s k (namespace_at s n).parent) z
     -- an unwritten map translates nothing, out or back
-    pub unwritten : (k : Kind) (n x : ℕ) → (map_in k (namespace_at s n)).state ≡ None
+    pub unwritten : (k : Kind) (n x : ℕ) → (map_in k (namespace_at s n)).state ≡ Unwritten
         → ((by_levels s).out k n x ≡ None) × ((by_levels s).back k n x ≡ None)

@@ -7,6 +7,7 @@ use Prim.Native.String.{String, [] as empty, ◌∷◌ as ◌then◌}
 use Rattle.capability.specs.Sets.{full_set, empty_set}
 use Rattle.idmap.specs.declared.Line.{Line}
 use Rattle.idmap.specs.Line.{no_line}
+use Rattle.records.specs.declared.MapState.TheVariants.{Unwritten, Written}
 use Rattle.records.specs.declared.Kind.{Kind}
 use Rattle.records.specs.declared.Kind.TheVariants.{User, Group}
 use Rattle.records.specs.declared.Process.{Process}
@@ -109,10 +110,10 @@ line inside parent count = record { inside = inside; parent = parent; count = co
 
 -- the maps of a namespace: both unwritten, only the one of a kind written, or both written alike
 abbrev pub unwritten : Kind → IdMap
-unwritten kind = record { state = None; lines = replicate 5 no_line }
+unwritten kind = record { state = Unwritten; lines = replicate 5 no_line }
 
 abbrev pub written : List Line → IdMap
-written ls = record { state = Some (length ls); lines = ls ++ replicate (5 - length ls) no_line }
+written ls = record { state = Written (length ls); lines = ls ++ replicate (5 - length ls) no_line }
 
 abbrev pub only : Kind → List Line → Kind → IdMap
 only User ls User = written ls

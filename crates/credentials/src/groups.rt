@@ -9,6 +9,7 @@ ghost use Rattle.credentials.specs.Calls.{kernel_groups, listed_of, set_groups_o
 use capability::CAP_SETGID;
 use hierarchy::capable::capable;
 use hierarchy::translate::to_kernel;
+use records::kinds::is_written;
 use records::{GroupList, Kind, MAX_GROUPS, Process};
 use tables::Tables;
 use tables::answer::{Answer, Errno};
@@ -48,7 +49,7 @@ pub fn setgroups(t: &mut Tables, caller: u64, list: &[u32]) -> Result<Answer, Er
     }
     let own = namespace_at(t, p.namespace as usize);
     // .. or group map unwritten, ..
-    if own.groups.state.is_none() {
+    if !is_written(own.groups.state) {
         return Err(Errno::EPERM);
     }
     // .. or "deny".

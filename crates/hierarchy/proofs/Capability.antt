@@ -19,41 +19,40 @@ as_tested true = refl
 as_tested false = refl
 
 module _ (s : State) (own euid : ℕ) (mine : Bool) where
-  -- what is answered at a namespace with so many turns to go
-  pub turns : ℕ → ℕ → Bool
-  turns zero n = false
-  turns (suc k) n = holds_in s own euid mine k n
+  rest : ℕ → ℕ → Bool
+  rest zero n = false
+  rest (suc k) n = holds_in s own euid mine k n
 
-  step : (k n : ℕ) →
-      holds_in s own euid mine k n ≡ cond (eqb n own) mine (cond (eqb n 0) false (cond (owned_by own euid (namespace_at s n)) true (turns k (namespace_at s n).parent)))
-  unfolding holds_in turns
-  step zero n = ap (λ (b : Bool). cond (eqb n own) mine (cond (eqb n 0) false b)) (as_tested (owned_by own euid (namespace_at s n)))
-  step (suc k) n = refl
+  module _ (k n : ℕ) where
+    step : holds_in s own euid mine k n ≡ cond (eqb n own) mine (cond (eqb n 0) false (cond (owned_by own euid (namespace_at s n)) true (rest k (namespace_at s n).parent)))
+    unfolding holds_in rest
+    step = by_left k
+      where
+        by_left : (j : ℕ) → holds_in s own euid mine j n ≡ cond (eqb n own) mine (cond (eqb n 0) false (cond (owned_by own euid (namespace_at s n)) true (rest j (namespace_at s n).parent)))
+        by_left zero = ap (λ (b : Bool). cond (eqb n own) mine (cond (eqb n 0) false b)) (as_tested (owned_by own euid (namespace_at s n)))
+        by_left (suc j) = refl
 
-  module _ (left n : ℕ) (more : 0 < left) where
-    turn : turns left n ≡ cond (eqb n own) mine (cond (eqb n 0) false (cond (owned_by own euid (namespace_at s n)) true (turns (left - 1) (namespace_at s n).parent)))
-    unfolding turns
-    turn = let q : left ≡ suc (left - 1) = omega arith in ap (λ (k : ℕ). turns k n) q ∙ step (left - 1) n
-
-    pub walk_own : n ≡ own → turns left n ≡ mine
-    walk_own e = turn ∙ rw (eq-eqb n own e)
+    pub walk_own : n ≡ own → holds_in s own euid mine k n ≡ mine
+    walk_own e = step ∙ rw (eq-eqb n own e)
 
     module _ (other : n ≡ own → ⊥) where
-      pub walk_root : n ≡ 0 → turns left n ≡ false
-      walk_root e = turn ∙ rw (ne_eqb n own other, eq-eqb n 0 e)
+      pub walk_root : n ≡ 0 → holds_in s own euid mine k n ≡ false
+      walk_root e = step ∙ rw (ne_eqb n own other, eq-eqb n 0 e)
 
       module _ (below : n ≡ 0 → ⊥) (m : Namespace) (read : m ≡ namespace_at s n) where
-        pub walk_owned : owned_by own euid m ≡ true → turns left n ≡ true
-        walk_owned e = turn ∙ rw (ne_eqb n own other, ne_eqb n 0 below, ← read, e)
+        pub walk_owned : owned_by own euid m ≡ true → holds_in s own euid mine k n ≡ true
+        walk_owned e = step ∙ rw (ne_eqb n own other, ne_eqb n 0 below, ← read, e)
 
-        pub walk_on : (k : ℕ) → k ≡ left - 1 → owned_by own euid m ≡ false → turns left n ≡ turns k m.parent
-        walk_on k q e = turn ∙ rw (ne_eqb n own other, ne_eqb n 0 below, ← read, e, q)
+        module _ (e : owned_by own euid m ≡ false) where
+          pub walk_end : k ≡ 0 → holds_in s own euid mine k n ≡ false
+          unfolding rest
+          walk_end z = step ∙ rw (ne_eqb n own other, ne_eqb n 0 below, ← read, e, z)
 
-  pub walk_end : (left n : ℕ) → left ≡ 0 → turns left n ≡ false
-  unfolding turns
-  walk_end left n z = ap (λ (k : ℕ). turns k n) z
+          pub walk_on : (j : ℕ) → k ≡ suc j → holds_in s own euid mine k n ≡ holds_in s own euid mine j m.parent
+          unfolding rest
+          walk_on j q = step ∙ rw (ne_eqb n own other, ne_eqb n 0 below, ← read, e, q)
 
--- of a process: the walk starts at the place that the call names, with one turn more than the height of that place
-pub walk_start : (s : State) (p : Process) (place c k : ℕ) → k ≡ height_of s place + 1 → turns s p.namespace p.users.effective (holds p.effective.bits c) k place ≡ capable_in s p place c
-unfolding capable_in turns
-walk_start s p place c k q = rw (q, add-one)
+-- of a process: the walk starts at the place that the call names, with the height of that place to go
+pub walk_start : (s : State) (p : Process) (place c k : ℕ) → k ≡ height_of s place → holds_in s p.namespace p.users.effective (holds p.effective.bits c) k place ≡ capable_in s p place c
+unfolding capable_in
+walk_start s p place c k q = rw q

@@ -27,23 +27,27 @@ fn owned(n: Namespace, own: u64, euid: u32) -> bool
 pub fn capable(t: &Tables, p: Process, place: u64, capability: u32) -> bool
     ensures { result ≡ capable_in (tables_of t.now) p place capability }
 {
-    let turns = height(t, place) + 1;
+    let mut left = height(t, place);
     let mut at = place;
-    for _ in 0..turns {
+    // No counted `for`: document 01 names a loop that yields yes or no by break, the level falling.
+    loop {
         // At the process's own namespace: its effective set decides.
         if at == p.namespace {
-            return p.effective.has(capability);
+            break p.effective.has(capability);
         }
         // At the initial namespace with neither: no.
         if at == 0 {
-            return false;
+            break false;
         }
         // At a namespace whose parent is the process's own and whose owner is its effective user: yes.
         let n = namespace_at(t, at as usize);
         if owned(n, p.namespace, p.users.effective) {
-            return true;
+            break true;
+        }
+        if left == 0 {
+            break false;
         }
         at = n.parent;
+        left -= 1;
     }
-    false
 }

@@ -1,5 +1,6 @@
 -- The read of a map: the lines that are put, line by line, and the text that they are. Assumes nothing.
-use Rattle.std.specs.Prelude.{Option, Some, None}
+use Rattle.records.specs.declared.MapState.{MapState}
+use Rattle.records.specs.declared.MapState.TheVariants.{Unwritten, Written}
 use Prim.Native.Nat.{ℕ, ◌+◌, ◌*◌, ◌≤◌, ◌<◌, min}
 use mathlib.Core.Path.{◌≡◌, refl, sym, ap, ◌∙◌}
 use mathlib.Core.List.{List, [], ◌∷◌, ◌++◌, map, append_assoc, append-nil}
@@ -24,9 +25,9 @@ use Rattle.tables.specs.Reply.{refused, bytes}
 use Rattle.hierarchy.specs.Walks.{Translation}
 use Rattle.mapping.specs.Calls.{ReadOutcome, read_text, shown_line, line_count, map_text_of}
 
-pub count_bounded : (st : Option ℕ) (k : ℕ) → k ≡ line_count st → k ≤ 5
-count_bounded None k e = omega arith
-count_bounded (Some n) k e = omega arith
+pub count_bounded : (st : MapState) (k : ℕ) → k ≡ line_count st → k ≤ 5
+count_bounded Unwritten k e = omega arith
+count_bounded (Written n) k e = omega arith
 
 -- ---- put_lines
 -- what is put after what stands at the front is put with it
@@ -82,9 +83,9 @@ module _ (by : Translation) (s : State) (kind : Kind) (n v : ℕ) (b : List ℕ)
 
 -- ---- read_map
 -- a map's lines are the first of its places
-lines_counted : (st : Option ℕ) (ls : List Line) → length ls ≡ max_lines → lines_if st ls ≡ take (line_count st) ls
-lines_counted None ls e = refl
-lines_counted (Some n) ls e = by_test (leb n 5)
+lines_counted : (st : MapState) (ls : List Line) → length ls ≡ max_lines → lines_if st ls ≡ take (line_count st) ls
+lines_counted Unwritten ls e = refl
+lines_counted (Written n) ls e = by_test (leb n 5)
     (λ t. let h = leb-true n max_lines t in let k : n ≡ min n max_lines = omega arith in rw (← k))
     (λ t. let h = leb-false n max_lines t in take_all n ls (omega arith) ∙ sym (take_all (min n max_lines) ls (omega arith)))
 

@@ -13,6 +13,7 @@ use Rattle.idmap.specs.Good.{max_lines}
 use Rattle.idmap.specs.Lookup.{or_no_id}
 use Rattle.idmap.specs.Ranges.{whole_by_reach}
 use Rattle.idmap.specs.Text.{map_lines, map_text, padded}
+use Rattle.records.specs.declared.MapState.TheVariants.{Written}
 use Rattle.records.specs.declared.Kind.{Kind}
 use Rattle.records.specs.declared.IdMap.{IdMap}
 use Rattle.records.specs.declared.Process.{Process}
@@ -95,8 +96,8 @@ module _ (l text : List ℕ) (kind : Kind) (w : Process) (n : ℕ) (m : Namespac
     read_lines : map_lines text ≡ Some ls
     read_lines = read.lines ∙ ap Some (sym same)
 
-    read_map_lem : ◌≡◌ {A = IdMap} (record { state = Some r.count; lines = r.lines }) (written_map ls)
-    read_map_lem = rw same (λ i. record { state = Some (sym read.count i); lines = sym read.padded_lines i })
+    read_map_lem : ◌≡◌ {A = IdMap} (record { state = Written r.count; lines = r.lines }) (written_map ls)
+    read_map_lem = rw same (λ i. record { state = Written (sym read.count i); lines = sym read.padded_lines i })
 
     pub lines_denied : t ≡ false → Promise (Err EPERM) l l (write_lines_to by (tables_of l) kind w n text)
     unfolding write_lines_to
@@ -113,7 +114,7 @@ module _ (l text : List ℕ) (kind : Kind) (w : Process) (n : ℕ) (m : Namespac
       lines_not_whole z = refuses EPERM l (write_lines_to by (tables_of l) kind w n text) (sym (rw (read_lines, ← tgt, ← q, y, ← whole_above, z)))
 
       pub lines_done : (kernel l' : List ℕ) → u ≡ true → kernel ≡ kernel_starts (to_kernel (tables_of l) kind m.parent) ls
-          → tables_of l' ≡ put_map (tables_of l) kind n (record { state = Some r.count; lines = r.lines }) kernel → Promise (Ok Done) l l' (write_lines_to by (tables_of l) kind w n text)
+          → tables_of l' ≡ put_map (tables_of l) kind n (record { state = Written r.count; lines = r.lines }) kernel → Promise (Ok Done) l l' (write_lines_to by (tables_of l) kind w n text)
       unfolding write_lines_to mapped_tables
       lines_done kernel l' z c p =
           answers Done l l' (write_lines_to by (tables_of l) kind w n text) refl

@@ -8,6 +8,8 @@ use Rattle.idmap.specs.Good.{max_lines, no_id}
 use Rattle.idmap.specs.Lookup.{or_no_id}
 use Rattle.idmap.specs.Text.{max_text_bytes, map_lines, padded}
 use Rattle.idmap.specs.Show.{lines_text}
+use Rattle.records.specs.declared.MapState.{MapState}
+use Rattle.records.specs.declared.MapState.TheVariants.{Unwritten, Written}
 use Rattle.records.specs.declared.Kind.{Kind}
 use Rattle.records.specs.declared.Kind.TheVariants.{User, Group}
 use Rattle.records.specs.declared.IdMap.{IdMap}
@@ -54,7 +56,7 @@ all_whole whole [] = true
 all_whole whole (l ∷ ls) = whole l.parent l.count && all_whole whole ls
 
 abbrev pub written_map : List Line → IdMap
-written_map ls = record { state = Some (length ls); lines = padded ls }
+written_map ls = record { state = Written (length ls); lines = padded ls }
 
 abbrev pub then_lines : {A : Type 0} → Option (List Line) → A → (List Line → A) → A
 then_lines None other next = other
@@ -153,9 +155,9 @@ shown_line by s kind n v l = record {
 }
 
 -- how many lines a map has
-abbrev pub line_count : Option ℕ → ℕ
-line_count None = 0
-line_count (Some n) = min n max_lines
+abbrev pub line_count : MapState → ℕ
+line_count Unwritten = 0
+line_count (Written n) = min n max_lines
 
 -- the text of a map of namespace n, as namespace v sees it: lines in the order written
 unfoldable pub map_text_of : Translation → State → Kind → ℕ → ℕ → List ℕ

@@ -11,7 +11,7 @@ use hierarchy::translate::{from_kernel, to_kernel};
 use idmap::show::{LINE_BYTES, put_line};
 use idmap::{Line, MAX_LINES, NO_ID};
 use records::kinds::map_in;
-use records::{IdMap, Kind, Process};
+use records::{IdMap, Kind, MapState, Process};
 use tables::Tables;
 use tables::answer::{Answer, Errno};
 use tables::find::{find_caller, named_process};
@@ -48,7 +48,10 @@ fn shown(t: &Tables, kind: Kind, n: u64, v: u64, l: Line) -> Line
 fn line_count(m: IdMap) -> usize
     ensures { result ≡ line_count m.state }
 {
-    m.state.unwrap_or(0).min(MAX_LINES)
+    match m.state {
+        MapState::Unwritten => 0,
+        MapState::Written(n) => n.min(MAX_LINES),
+    }
 }
 
 // Stores lines, as namespace `v` sees them, at the front of a buffer that has room for them.

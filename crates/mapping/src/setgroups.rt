@@ -7,6 +7,7 @@ ghost use Rattle.mapping.specs.Calls.{setting_in, write_setgroups_to, write_setg
 use capability::CAP_SYS_ADMIN;
 use hierarchy::capable::capable;
 use records::Process;
+use records::kinds::is_written;
 use tables::Tables;
 use tables::answer::{Answer, Errno};
 use tables::find::{find_caller, named_process};
@@ -40,7 +41,7 @@ fn write_to(t: &mut Tables, w: Process, n: u64, text: &[u8]) -> Result<Answer, E
     // 22 unless the text is exactly one of the words.
     let deny = asked_setting(text).ok_or(Errno::EINVAL)?;
     // "deny" gets 1 if the group map is written.
-    if deny && target.groups.state.is_some() {
+    if deny && is_written(target.groups.state) {
         return Err(Errno::EPERM);
     }
     // "allow" gets 1 if the setting is "deny".

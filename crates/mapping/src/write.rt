@@ -14,8 +14,8 @@ use hierarchy::translate::to_kernel;
 use idmap::range::lies_whole;
 use idmap::text::parse_map;
 use idmap::{Line, MAX_LINES, MAX_TEXT_BYTES, NO_ID};
-use records::kinds::{ids_in, map_in, set_id};
-use records::{IdMap, Kind, Namespace, Process};
+use records::kinds::{ids_in, is_written, map_in, set_id};
+use records::{IdMap, Kind, MapState, Namespace, Process};
 use tables::Tables;
 use tables::answer::{Answer, Errno};
 use tables::find::{find_caller, named_process};
@@ -113,7 +113,7 @@ fn write_lines(
     }
     let kernel = kernel_starts(t, kind, target.parent, lines);
     let map = IdMap {
-        state: Some(read.count),
+        state: MapState::Written(read.count),
         lines: read.lines,
     };
     map_put(t, n as usize, kind, map, kernel);
@@ -143,7 +143,7 @@ fn write_to(t: &mut Tables, kind: Kind, w: Process, n: u64, text: &[u8]) -> Resu
         return Err(Errno::EINVAL);
     }
     // 1 if already written.
-    if map_in(kind, target).state.is_some() {
+    if is_written(map_in(kind, target).state) {
         return Err(Errno::EPERM);
     }
     // 1 without SETUID (user) or SETGID (group) in the target.

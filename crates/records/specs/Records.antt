@@ -1,6 +1,6 @@
 -- The records of the tables, and the rows of words that hold them. Nothing here is to be believed but that the layout
 -- loses nothing: a record's words are read as the record (proofs/Records.antt). Assumes nothing.
-use Rattle.std.specs.Prelude.{ℕ, ◌+◌, ◌*◌, ◌%◌, ◌^◌, ◌≡◌, Bool, true, false, cond, length, get_or, take, drop, replicate, eqb, Option, Some, None, is_some}
+use Rattle.std.specs.Prelude.{ℕ, ◌+◌, ◌*◌, ◌%◌, ◌^◌, ◌≡◌, Bool, true, false, cond, length, get_or, take, drop, replicate, eqb}
 use mathlib.Core.List.{List, [], zip_with}
 use Rattle.prelude.specs.Lists.{tab}
 use Rattle.capability.specs.Sets.{cap_setgid, cap_setuid, empty_set}
@@ -12,6 +12,8 @@ use Rattle.records.specs.declared.Kind.TheVariants.{User, Group}
 use Rattle.records.specs.declared.Ids.{Ids}
 use Rattle.records.specs.declared.GroupList.{GroupList}
 use Rattle.records.specs.declared.Process.{Process}
+use Rattle.records.specs.declared.MapState.{MapState}
+use Rattle.records.specs.declared.MapState.TheVariants.{Unwritten, Written}
 use Rattle.records.specs.declared.IdMap.{IdMap}
 use Rattle.records.specs.declared.Namespace.{Namespace}
 
@@ -80,8 +82,8 @@ free_process = record {
 }
 
 -- ---- maps and namespaces
-abbrev pub state_of : ℕ → ℕ → Option ℕ
-state_of tag n = cond (eqb tag 1) (Some n) None
+abbrev pub state_of : ℕ → ℕ → MapState
+state_of tag n = cond (eqb tag 1) (Written n) Unwritten
 
 -- a map's words: whether it is written, with how many lines, and the words of as many lines as there may be, each with
 -- its kernel start, which the code keeps beside it
@@ -98,7 +100,7 @@ map_of ws = record {
 }
 
 abbrev pub free_map : IdMap
-free_map = record { state = None; lines = replicate max_lines no_line }
+free_map = record { state = Unwritten; lines = replicate max_lines no_line }
 
 -- a namespace's row: whether it is live, its parent, its level, its owner, the words of its user map, those of its
 -- group map, and whether setgroups is denied
@@ -151,13 +153,19 @@ abbrev pub set_id_of : Kind → ℕ
 set_id_of User = cap_setuid
 set_id_of Group = cap_setgid
 
-abbrev pub is_written : Option ℕ → Bool
-is_written s = is_some s
+-- how many lines the words of a map say that it has
+abbrev pub state_count : MapState → ℕ
+state_count Unwritten = 0
+state_count (Written n) = n
+
+abbrev pub is_written : MapState → Bool
+is_written Unwritten = false
+is_written (Written n) = true
 
 -- the lines of a map: none until it is written
-abbrev pub lines_if : Option ℕ → List Line → List Line
-lines_if None ls = []
-lines_if (Some n) ls = take n ls
+abbrev pub lines_if : MapState → List Line → List Line
+lines_if Unwritten ls = []
+lines_if (Written n) ls = take n ls
 
 abbrev pub lines_of : IdMap → List Line
 lines_of m = lines_if m.state m.lines

@@ -1,8 +1,8 @@
 // What goes by the kind of an ID.
 ghost use Rattle.std.specs.Prelude.{◌≡◌};
-ghost use Rattle.records.specs.Records.{ids_in, map_in, set_id_of};
+ghost use Rattle.records.specs.Records.{ids_in, map_in, set_id_of, is_written};
 
-use crate::{IdMap, Ids, Kind, Namespace, Process};
+use crate::{IdMap, Ids, Kind, MapState, Namespace, Process};
 use capability::{CAP_SETGID, CAP_SETUID};
 
 // A process's IDs of a kind.
@@ -33,4 +33,10 @@ pub fn set_id(kind: Kind) -> u32
         Kind::User => CAP_SETUID,
         Kind::Group => CAP_SETGID,
     }
+}
+
+pub fn is_written(s: MapState) -> bool
+    ensures { result ≡ is_written s }
+{
+    matches!(s, MapState::Written(_))
 }

@@ -60,10 +60,16 @@ pub struct Process {
     pub effective: CapabilitySet,
 }
 
-// A map: with how many lines it is written, if it is, and the lines, in an array since there is no heap.
+// Whether a map is written, and with how many lines. No Option: document 01 names this enum, and the array beside it.
+#[derive(Clone, Copy)]
+pub enum MapState {
+    Unwritten,
+    Written(usize),
+}
+
 #[derive(Clone, Copy)]
 pub struct IdMap {
-    pub state: Option<usize>,
+    pub state: MapState,
     pub lines: [Line; MAX_LINES],
 }
 

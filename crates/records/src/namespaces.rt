@@ -2,9 +2,10 @@
 ghost use Rattle.std.specs.Prelude.{◌≡◌, ◌+◌, ◌*◌, ◌<◌, ◌≤◌, take, drop, length};
 ghost use Rattle.idmap.specs.Good.{max_lines};
 ghost use Rattle.idmap.specs.Line.{line_words, inside_column, parent_column, kernel_column, line_of, line_at};
-ghost use Rattle.records.specs.Records.{low_at, starts_in, starts_from, Cleared, unmapped, state_of, first_line_at, map_width, map_at, map_of, map_from, LinesOf, free_map, free_namespace, namespace_width, namespace_of, namespace_from};
+ghost use Rattle.records.specs.Records.{low_at, starts_in, starts_from, Cleared, unmapped, state_of, state_count, first_line_at, map_width, map_at, map_of, map_from, LinesOf, free_map, free_namespace, namespace_width, namespace_of, namespace_from};
 
-use crate::{IdMap, Kind, Namespace};
+use crate::kinds::is_written;
+use crate::{IdMap, Kind, MapState, Namespace};
 use idmap::{LINE_WORDS, Line, MAX_LINES, NO_LINE, low};
 use std::array;
 
@@ -52,13 +53,22 @@ pub fn map_at(kind: Kind) -> usize
     }
 }
 
-fn state_of(tag: u64, n: u64) -> Option<usize>
+fn state_of(tag: u64, n: u64) -> MapState
     ensures { result ≡ state_of tag n }
 {
     if tag == WRITTEN {
-        Some(n as usize)
+        MapState::Written(n as usize)
     } else {
-        None
+        MapState::Unwritten
+    }
+}
+
+fn state_count(s: MapState) -> u64
+    ensures { result ≡ state_count s }
+{
+    match s {
+        MapState::Unwritten => 0,
+        MapState::Written(n) => n as u64,
     }
 }
 
@@ -110,8 +120,8 @@ pub fn map_words(m: IdMap, kernel: [u32; MAX_LINES]) -> [u64; MAP_WIDTH]
     let d = line_words(m.lines[3], kernel[3]);
     let e = line_words(m.lines[4], kernel[4]);
     [
-        m.state.is_some() as u64,
-        m.state.unwrap_or(0) as u64,
+        is_written(m.state) as u64,
+        state_count(m.state),
         a[0],
         a[1],
         a[2],
@@ -177,7 +187,7 @@ fn free_map() -> IdMap
     ensures { result ≡ free_map }
 {
     IdMap {
-        state: None,
+        state: MapState::Unwritten,
         lines: [NO_LINE; MAX_LINES],
     }
 }

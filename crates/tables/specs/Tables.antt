@@ -1,10 +1,11 @@
 -- The tables as a caller thinks of them: document 01, 'What stands in the tables'. Assumes nothing.
-use Rattle.std.specs.Prelude.{ℕ, ◌+◌, ◌-◌, ◌*◌, List, ◌∷◌, true, false, get_or, set, replicate, Some}
+use Rattle.std.specs.Prelude.{ℕ, ◌+◌, ◌-◌, ◌*◌, List, ◌∷◌, true, false, get_or, set, replicate}
 use Rattle.capability.specs.Sets.{full_set}
 use Rattle.idmap.specs.declared.Line.{Line}
 use Rattle.idmap.specs.Line.{no_line}
 use Rattle.idmap.specs.Good.{max_lines, no_id}
 use Rattle.rows.specs.Rows.{rows}
+use Rattle.records.specs.declared.MapState.TheVariants.{Written}
 use Rattle.records.specs.declared.Kind.{Kind}
 use Rattle.records.specs.declared.Kind.TheVariants.{User, Group}
 use Rattle.records.specs.declared.Process.{Process}
@@ -119,7 +120,7 @@ abbrev pub fixed_line : Line
 fixed_line = record { inside = 0; parent = 0; count = no_id }
 
 abbrev pub fixed_map : IdMap
-fixed_map = record { state = Some 1; lines = fixed_line ∷ replicate (max_lines - 1) no_line }
+fixed_map = record { state = Written 1; lines = fixed_line ∷ replicate (max_lines - 1) no_line }
 
 abbrev pub root_namespace : Namespace
 root_namespace = record { live = true; parent = 0; level = 0; owner = 0; users = fixed_map; groups = fixed_map; deny = false }

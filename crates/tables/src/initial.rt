@@ -8,7 +8,7 @@ use crate::{NAMESPACE_PLACES, PROCESS_PLACES, Tables};
 use capability::CapabilitySet;
 use idmap::{Line, MAX_LINES, NO_ID, NO_LINE};
 use records::processes::free_process;
-use records::{IdMap, Kind, NO_GROUPS, Process, ZERO_IDS};
+use records::{IdMap, Kind, MapState, NO_GROUPS, Process, ZERO_IDS};
 
 fn first_process() -> Process
     ensures { result ≡ first_process }
@@ -33,7 +33,7 @@ fn fixed_map() -> IdMap
         count: NO_ID,
     };
     IdMap {
-        state: Some(1),
+        state: MapState::Written(1),
         lines: [fixed, NO_LINE, NO_LINE, NO_LINE, NO_LINE],
     }
 }
