@@ -17,7 +17,8 @@ fn itself(id: u32) -> Option<u32>
     if id == NO_ID { None } else { Some(id) }
 }
 
-// The kernel ID that an ID of a namespace stands for. Linux: make_kuid, make_kgid.
+// The kernel ID that an ID of a namespace stands for. The tables, the kind and the place are no struct, since callers
+// have each from elsewhere. Linux: make_kuid, make_kgid.
 #[tactic(auto, unfolding(crate::specs::KernelStarts::to_kernel))]
 pub fn to_kernel(t: &Tables, kind: Kind, place: u64, id: u32) -> Option<u32>
     ensures { result ≡ to_kernel (tables_of t.now) kind place id }

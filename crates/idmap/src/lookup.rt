@@ -63,7 +63,8 @@ pub fn lookup_parent(words: &[u64], id: u32) -> LookedUp
     lookup(words, id, INSIDE, PARENT)
 }
 
-// The kernel ID for an ID inside, by the kernel starts of the lines. Linux: map_id_down.
+// The kernel ID for an ID inside, by the kernel starts of the lines. This and the next name their columns, which is all
+// that they are. Linux: map_id_down.
 #[tactic(auto, unfolding(crate::specs::Lookup::out))]
 pub fn lookup_kernel(words: &[u64], id: u32) -> Option<u32>
     ensures { result ≡ out (kernel_lines_in words.now) id }

@@ -1,13 +1,15 @@
 -- What the table of calls has of each. Assumes nothing.
 use Prim.Native.Nat.{ℕ, ◌≤◌}
-use mathlib.Core.Path.{◌≡◌, refl}
+use mathlib.Core.Path.{◌≡◌, refl, sym, ap, ◌∙◌}
 use mathlib.Core.List.{List, [], ◌∷◌}
 use borrow.Author.Tests.{ne_eqb}
 use native.Mathlib.Omega.{arith}
 use Rattle.std.specs.Prelude.{None}
 use Rattle.calls.specs.declared.Call.{Call}
 use Rattle.calls.specs.declared.Call.TheVariants.{Fork, Clone, Unshare, Setns, WriteMap, WriteSetgroups, ReadMap, ReadSetgroups, SetIds, SetGroups, Capable, Drop, OwnIdsOf, Translate}
-use Rattle.journal.specs.Layout.{byte_of, templates, with_byte, template_of, form_of}
+use Rattle.journal.specs.declared.layout.Lent.{Lent}
+use Rattle.journal.specs.declared.layout.Lent.TheVariants.{Nothing, Text, Groups, Buffer}
+use Rattle.journal.specs.Layout.{byte_of, templates, with_byte, template_of, form_by, form_of, fixed_bytes}
 
 -- a call has one to three names, and at most three numbers
 few : (c : Call) → (1 ≤ (form_of c).names) × ((form_of c).names ≤ 3) × ((form_of c).numbers ≤ 3)
@@ -35,6 +37,37 @@ few_names c = (few c).1
 
 pub few_numbers : (c : Call) → (form_of c).numbers ≤ 3
 few_numbers c = (few c).2
+
+-- a record has its call byte and its caller
+pub caller_there : (c : Call) → 9 ≤ fixed_bytes (form_of c)
+caller_there c = let n = some_names c in omega (arith, n)
+
+-- a call that lends a buffer is a read, with a process and the buffer's length
+abbrev buffers : Lent → ℕ
+buffers Nothing = 0
+buffers Text = 0
+buffers Groups = 0
+buffers Buffer = 1
+
+no_buffer : (d : Lent) → buffers d ≡ 0 → d ≡ Buffer → ⊥
+no_buffer d a e = let z : ◌≡◌ {A = ℕ} 0 1 = sym a ∙ ap buffers e in omega (arith, z)
+
+pub read_form : (c : Call) → (form_of c).lent ≡ Buffer → form_of c ≡ form_by 2 1 Buffer
+unfolding form_of
+read_form (Fork c) e = absurd (no_buffer _ refl e)
+read_form (Clone c) e = absurd (no_buffer _ refl e)
+read_form (Unshare c) e = absurd (no_buffer _ refl e)
+read_form (Setns c n) e = absurd (no_buffer _ refl e)
+read_form (WriteMap k c p) e = absurd (no_buffer _ refl e)
+read_form (WriteSetgroups c p) e = absurd (no_buffer _ refl e)
+read_form (ReadMap k c p) e = refl
+read_form (ReadSetgroups c p) e = refl
+read_form (SetIds k c i) e = absurd (no_buffer _ refl e)
+read_form (SetGroups c) e = absurd (no_buffer _ refl e)
+read_form (Capable c n number) e = absurd (no_buffer _ refl e)
+read_form (Drop c p e') e = absurd (no_buffer _ refl e)
+read_form (OwnIdsOf c) e = absurd (no_buffer _ refl e)
+read_form (Translate k w c n x) e = absurd (no_buffer _ refl e)
 
 -- the bytes of which a byte is none, as a match has them where none of its arms is taken
 abbrev pub NoneFrom : Type 0 → ℕ → List Call → Type 0

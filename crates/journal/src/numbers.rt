@@ -29,7 +29,8 @@ impl Number for u32 {
     }
 }
 
-// Stores the lowest `width` bytes of a number.
+// Stores the lowest `width` bytes of a number. Each function here asks for the room of what it stores or reads, which
+// differs, so that no type can say it.
 #[tactic(auto, using(crate::proofs::Puts::number_put))]
 pub(crate) fn put_number(buffer: &mut [u8], at: usize, width: usize, x: u64)
     requires { (width ≤ 8) × (at + width ≤ length buffer.old) }

@@ -5,7 +5,8 @@ ghost use Rattle.records.specs.Records.{ids_in, map_in, set_id_of, is_written};
 use crate::{IdMap, Ids, Kind, MapState, Namespace, Process};
 use capability::{CAP_SETGID, CAP_SETUID};
 
-// A process's IDs of a kind.
+// A process's IDs of a kind. This and the others here match on the kind; a generic choice of two would be that match
+// too.
 pub fn ids_in(kind: Kind, p: Process) -> Ids
     ensures { result ≡ ids_in kind p }
 {
@@ -35,6 +36,7 @@ pub fn set_id(kind: Kind) -> u32
     }
 }
 
+// Whether a map is written.
 pub fn is_written(s: MapState) -> bool
     ensures { result ≡ is_written s }
 {

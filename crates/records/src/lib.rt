@@ -73,7 +73,8 @@ pub struct IdMap {
     pub lines: [Line; MAX_LINES],
 }
 
-// A namespace, or that the place has none, as for a process: `namespace_of`.
+// A namespace, or that the place has none, as for a process: `namespace_of`. Its parent is a place and no box, since
+// all tables stand in one lent array.
 #[derive(Clone, Copy)]
 pub struct Namespace {
     pub live: bool,

@@ -7,7 +7,6 @@ ghost use Rattle.records.specs.Records.{low_at, starts_in, starts_from, Cleared,
 use crate::kinds::is_written;
 use crate::{IdMap, Kind, MapState, Namespace};
 use idmap::{LINE_WORDS, Line, MAX_LINES, NO_LINE, low};
-use std::array;
 
 // Where the parts of a map stand among its words.
 const STATE: usize = 0;
@@ -91,7 +90,14 @@ fn map_of(words: &[u64; MAP_WIDTH]) -> IdMap
 {
     IdMap {
         state: state_of(words[STATE], words[COUNT]),
-        lines: array::from_fn(|i| line_of(words, i)),
+        // By name: `from_fn` makes reads of maps two thirds slower.
+        lines: [
+            line_of(words, 0),
+            line_of(words, 1),
+            line_of(words, 2),
+            line_of(words, 3),
+            line_of(words, 4),
+        ],
     }
 }
 
@@ -108,7 +114,8 @@ fn line_words(l: Line, kernel: u32) -> [u64; LINE_WORDS]
     ]
 }
 
-// The words that are read as a map and the kernel starts of its lines.
+// The words that are read as a map and the kernel starts of its lines. These stand in an array of their own, since they
+// are no part of the map that the definitions to be believed have.
 pub fn map_words(m: IdMap, kernel: [u32; MAX_LINES]) -> [u64; MAP_WIDTH]
     ensures written { map_of result ≡ m }
     ensures kept { starts_in result ≡ kernel }

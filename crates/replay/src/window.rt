@@ -8,6 +8,7 @@ use std::io::Read;
 // The room for it. The version byte and two of the longest records fit.
 pub const WINDOW_ROOM: usize = 1 + 2 * MAX_RECORD;
 
+// The buffer has its length beside it, since a read asks for bytes to read into, and there is no heap.
 #[derive(Drop)]
 pub struct Window {
     bytes: [u8; WINDOW_ROOM],
