@@ -2,7 +2,7 @@
 use Rattle.std.specs.Prelude.{ℕ, ◌+◌, ◌*◌, cond, List, [], ◌∷◌, eqb, get_or, Option, Some, None}
 use Rattle.records.specs.declared.Kind.{Kind}
 use Rattle.records.specs.declared.Kind.TheVariants.{User, Group}
-use Rattle.records.specs.Records.{zero_ids}
+use Rattle.records.specs.Records.{by_kind, zero_ids}
 use Rattle.credentials.specs.declared.translate.Way.{Way}
 use Rattle.credentials.specs.declared.translate.Way.TheVariants.{Out, Back}
 use Rattle.calls.specs.declared.Call.{Call}
@@ -28,10 +28,6 @@ abbrev pub number_bytes : ℕ
 number_bytes = 4
 
 -- ---- the call bytes, in which the choices lie
-abbrev pub by_kind : {A : Type 0} → Kind → A → A → A
-by_kind User u g = u
-by_kind Group u g = g
-
 abbrev pub by_way : {A : Type 0} → Way → A → A → A
 by_way Out o b = o
 by_way Back o b = b

@@ -1,11 +1,13 @@
 // The call bytes, and what a call's record has after its call byte: the table of docs/journal.md. A byte that is given
 // never changes. They are bytes and no enum, since C names them so, and a journal may have any byte where one stands.
 ghost use Rattle.std.specs.Prelude.{◌≡◌};
-ghost use Rattle.journal.specs.Layout.{by_kind, by_way, byte_of, template_of, form_by, form_of, fixed_bytes, names_of, numbers_of, first_three, call_by};
+ghost use Rattle.records.specs.Records.{by_kind};
+ghost use Rattle.journal.specs.Layout.{by_way, byte_of, template_of, form_by, form_of, fixed_bytes, names_of, numbers_of, first_three, call_by};
 
 use crate::{NAME_BYTES, NUMBER_BYTES};
 use calls::Call;
 use credentials::translate::Way;
+use records::kinds::by_kind;
 use records::{Ids, Kind, ZERO_IDS};
 
 pub const FORK: u8 = 0x10;
@@ -47,16 +49,6 @@ pub const TRANSLATE_UID_BACK: u8 = 0x42;
 pub const TRANSLATE_GID_OUT: u8 = 0x43;
 
 pub const TRANSLATE_GID_BACK: u8 = 0x44;
-
-// The byte of a choice between a user's and a group's.
-fn by_kind(kind: Kind, user: u8, group: u8) -> u8
-    ensures { result ≡ by_kind kind user group }
-{
-    match kind {
-        Kind::User => user,
-        Kind::Group => group,
-    }
-}
 
 fn translate_byte(kind: Kind, way: Way) -> u8
     ensures { result ≡ by_kind kind (by_way way 0x41 0x42) (by_way way 0x43 0x44) }

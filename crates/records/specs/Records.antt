@@ -140,6 +140,10 @@ unfoldable pub namespace_from : List ℕ → Namespace
 namespace_from r = cond (eqb (length r) namespace_width) (namespace_of r) free_namespace
 
 -- ---- by kind: user IDs by the user maps, group IDs by the group maps
+abbrev pub by_kind : {A : Type 0} → Kind → A → A → A
+by_kind User users groups = users
+by_kind Group users groups = groups
+
 abbrev pub ids_in : Kind → Process → Ids
 ids_in User p = p.users
 ids_in Group p = p.groups

@@ -4,7 +4,7 @@ ghost use Rattle.idmap.specs.Good.{max_lines};
 ghost use Rattle.idmap.specs.Line.{line_words, inside_column, parent_column, kernel_column, line_of, line_at};
 ghost use Rattle.records.specs.Records.{low_at, starts_in, starts_from, Cleared, unmapped, state_of, state_count, first_line_at, map_width, map_at, map_of, map_from, LinesOf, free_map, free_namespace, namespace_width, namespace_of, namespace_from};
 
-use crate::kinds::is_written;
+use crate::kinds::{by_kind, is_written};
 use crate::{IdMap, Kind, MapState, Namespace};
 use idmap::{LINE_WORDS, Line, MAX_LINES, NO_LINE, low};
 
@@ -46,10 +46,7 @@ pub const NAMESPACE_WIDTH: usize = DENY + 1;
 pub fn map_at(kind: Kind) -> usize
     ensures { result ≡ map_at kind }
 {
-    match kind {
-        Kind::User => USER_MAP,
-        Kind::Group => GROUP_MAP,
-    }
+    by_kind(kind, USER_MAP, GROUP_MAP)
 }
 
 fn state_of(tag: u64, n: u64) -> MapState

@@ -11,7 +11,7 @@ use Rattle.records.specs.declared.Kind.TheVariants.{User, Group}
 use Rattle.records.specs.declared.Process.{Process}
 use Rattle.records.specs.declared.IdMap.{IdMap}
 use Rattle.records.specs.declared.Namespace.{Namespace}
-use Rattle.records.specs.Records.{process_width, process_of, zero_ids, no_groups, free_process, namespace_width, namespace_of, free_namespace, with_map, starts_of, no_starts}
+use Rattle.records.specs.Records.{by_kind, process_width, process_of, zero_ids, no_groups, free_process, namespace_width, namespace_of, free_namespace, with_map, starts_of, no_starts}
 
 pub record State : Type 0 where
   pub processes : List Process
@@ -59,10 +59,6 @@ process_at s i = get_or s.processes i free_process
 
 unfoldable pub namespace_at : State → ℕ → Namespace
 namespace_at s i = get_or s.namespaces i free_namespace
-
-abbrev pub by_kind : {A : Type 0} → Kind → A → A → A
-by_kind User users groups = users
-by_kind Group users groups = groups
 
 abbrev pub starts_by : Kind → State → List (List ℕ)
 starts_by k s = by_kind k s.user_starts s.group_starts
