@@ -16,7 +16,7 @@ fn is_blank(c: u8) -> bool
 fn is_digit(c: u8) -> bool
     ensures { result ≡ is_digit c }
 {
-    b'0' <= c && c <= b'9'
+    c.is_ascii_digit()
 }
 
 // Where the blanks from `at` on end.
