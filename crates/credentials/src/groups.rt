@@ -23,9 +23,9 @@ fn kernel_groups(t: &Tables, namespace: u64, list: &[u32]) -> Option<GroupList>
     ensures { result ≡ listed_of (kernel_groups (by_kernel_starts (tables_of t.now)) «namespace» list.now) }
 {
     let mut ids = [0; MAX_GROUPS];
-    // By index: nothing is known of what a zip over `iter_mut` writes.
-    for i in 0..list.len() {
-        ids[i] = to_kernel(t, Kind::Group, namespace, list[i])?;
+    // The places are counted: nothing is known of what a zip over `iter_mut` writes.
+    for (i, id) in list.iter().enumerate() {
+        ids[i] = to_kernel(t, Kind::Group, namespace, *id)?;
     }
     Some(GroupList {
         count: list.len() as u64,

@@ -45,9 +45,9 @@ fn seen_groups(t: &Tables, namespace: u64, list: GroupList) -> GroupList
 {
     let count = list.count.min(MAX_GROUPS as u64) as usize;
     let mut ids = [0; MAX_GROUPS];
-    // By index: nothing is known of what a zip over `iter_mut` writes.
-    for i in 0..count {
-        ids[i] = seen(t, Kind::Group, namespace, list.ids[i]);
+    // The places are counted: nothing is known of what a zip over `iter_mut` writes.
+    for (i, id) in list.ids[..count].iter().enumerate() {
+        ids[i] = seen(t, Kind::Group, namespace, *id);
     }
     GroupList {
         count: count as u64,

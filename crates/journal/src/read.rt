@@ -110,32 +110,35 @@ impl Body<'_> {
     }
 }
 
-// Whether bytes are left after a record's arguments: of a list those that are no whole ID.
-fn left_over(lent: Lent, rest: usize) -> bool
-    ensures { result ≡ leftover lent rest }
-{
-    match lent {
-        Lent::Nothing | Lent::Buffer => rest > 0,
-        Lent::Text => false,
-        Lent::Groups => rest % NUMBER_BYTES > 0,
+// What is lent to a call, by the bytes that stand after its record's numbers.
+impl Lent {
+    // Whether bytes are left over: of a list those that are no whole ID.
+    fn leaves_over(self, rest: usize) -> bool
+        ensures { result ≡ leftover self rest }
+    {
+        match self {
+            Lent::Nothing | Lent::Buffer => rest > 0,
+            Lent::Text => false,
+            Lent::Groups => rest % NUMBER_BYTES > 0,
+        }
     }
-}
 
-fn text_bytes(lent: Lent, rest: usize) -> usize
-    ensures { result ≡ text_bytes lent rest }
-{
-    match lent {
-        Lent::Text => rest,
-        Lent::Nothing | Lent::Groups | Lent::Buffer => 0,
+    fn text_bytes(self, rest: usize) -> usize
+        ensures { result ≡ text_bytes self rest }
+    {
+        match self {
+            Lent::Text => rest,
+            Lent::Nothing | Lent::Groups | Lent::Buffer => 0,
+        }
     }
-}
 
-fn id_count(lent: Lent, rest: usize) -> usize
-    ensures { result ≡ id_count lent rest }
-{
-    match lent {
-        Lent::Groups => rest / NUMBER_BYTES,
-        Lent::Nothing | Lent::Text | Lent::Buffer => 0,
+    fn id_count(self, rest: usize) -> usize
+        ensures { result ≡ id_count self rest }
+    {
+        match self {
+            Lent::Groups => rest / NUMBER_BYTES,
+            Lent::Nothing | Lent::Text | Lent::Buffer => 0,
+        }
     }
 }
 
@@ -159,14 +162,14 @@ fn record_in(at: usize, body: &[u8], c: Call) -> Read
     let lent = layout::form_of(c).lent;
     let rest = size - fixed;
     // And nothing after them.
-    if left_over(lent, rest) {
+    if lent.leaves_over(rest) {
         return Err(Stop::Leftover.at(at));
     }
     Ok(Some(Record {
         call: body.call(),
         tail: at + SIZE_BYTES + fixed,
-        text: text_bytes(lent, rest),
-        ids: id_count(lent, rest),
+        text: lent.text_bytes(rest),
+        ids: lent.id_count(rest),
         buffer: body.buffer_length(),
         next,
     }))

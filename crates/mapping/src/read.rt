@@ -59,8 +59,8 @@ fn put_lines(t: &Tables, kind: Kind, n: u64, v: u64, lines: &[Line], buffer: &mu
     requires { length lines.now * line_bytes ≤ length buffer.old }
     ensures { buffer.new ≡ put_at buffer.old 0 (lines_text (map (quick shown_line (tables_of t.now) kind n v) lines.now)) }
 {
-    for i in 0..lines.len() {
-        put_line(buffer, i * LINE_BYTES, shown(t, kind, n, v, lines[i]));
+    for (i, l) in lines.iter().enumerate() {
+        put_line(buffer, i * LINE_BYTES, shown(t, kind, n, v, *l));
     }
 }
 

@@ -80,9 +80,9 @@ fn kernel_starts(t: &Tables, kind: Kind, parent: u64, lines: &[Line]) -> [u32; M
     ensures { result ≡ kernel_starts (to_kernel (tables_of t.now) kind parent) lines.now }
 {
     let mut kernel = [0; MAX_LINES];
-    // By index: nothing is known of what a zip over `iter_mut` writes.
-    for i in 0..lines.len() {
-        kernel[i] = to_kernel(t, kind, parent, lines[i].parent).unwrap_or(NO_ID);
+    // The places are counted: nothing is known of what a zip over `iter_mut` writes.
+    for (i, l) in lines.iter().enumerate() {
+        kernel[i] = to_kernel(t, kind, parent, l.parent).unwrap_or(NO_ID);
     }
     kernel
 }

@@ -7,6 +7,7 @@ ghost use Rattle.records.specs.Records.{low_at, starts_in, starts_from, Cleared,
 use crate::kinds::{by_kind, is_written};
 use crate::{IdMap, Kind, MapState, Namespace};
 use idmap::{LINE_WORDS, Line, MAX_LINES, NO_LINE, low};
+use std::array;
 
 // Where the parts of a map stand among its words.
 const STATE: usize = 0;
@@ -87,14 +88,7 @@ fn map_of(words: &[u64; MAP_WIDTH]) -> IdMap
 {
     IdMap {
         state: state_of(words[STATE], words[COUNT]),
-        // By name: `from_fn` makes reads of maps two thirds slower.
-        lines: [
-            line_of(words, 0),
-            line_of(words, 1),
-            line_of(words, 2),
-            line_of(words, 3),
-            line_of(words, 4),
-        ],
+        lines: array::from_fn(|i| line_of(words, i)),
     }
 }
 

@@ -1,5 +1,5 @@
 // A line of a script: what it is, with what it lends to its call.
-ghost use Rattle.std.specs.Prelude.{◌≡◌, ◌≤◌, ◌<◌, [], length, IsErr};
+ghost use Rattle.std.specs.Prelude.{◌≡◌, ◌↔◌, ◌≤◌, ◌<◌, [], length, IsOk, IsErr, IfOk};
 
 use crate::words::{Words, number};
 use crate::{commands, texts};
@@ -47,7 +47,10 @@ pub struct BufferLength {
 impl TryFrom<u64> for BufferLength {
     type Error = Malformed;
 
-    fn try_from(length: u64) -> Result<BufferLength, Malformed> {
+    fn try_from(length: u64) -> Result<BufferLength, Malformed>
+        ensures fits { IsOk result ↔ (length ≤ 65536) }
+        ensures kept { IfOk result (λ l. l.bytes ≡ length) }
+    {
         if length <= MAX_BUFFER as u64 {
             Ok(BufferLength {
                 bytes: length as usize,

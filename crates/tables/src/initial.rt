@@ -44,8 +44,8 @@ fn fill_processes(t: &mut Tables)
 {
     let mut places = [free_process(); PROCESS_PLACES];
     places[0] = first_process();
-    for i in 0..PROCESS_PLACES {
-        process_put(t, i, places[i]);
+    for (i, p) in places.iter().enumerate() {
+        process_put(t, i, *p);
     }
 }
 

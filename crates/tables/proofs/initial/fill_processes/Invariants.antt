@@ -5,4 +5,4 @@ use Rattle.tables.proofs.Filling.{processes_in}
 use Rattle.tables.proofs.initial.fill_processes.Given as goal
 
 abbrev pub invariant-loop-i : goal.invariant-loop-i
-invariant-loop-i l = (l.places ≡ initial_tables.processes) × (tables_of l.t ≡ processes_in (tables_of l.fn.t) l.i)
+invariant-loop-i l = (l.p-items ≡ initial_tables.processes) × (tables_of l.t ≡ processes_in (tables_of l.fn.t) l.i)
