@@ -7,6 +7,7 @@ use mathlib.Core.List.{List, [], ◌∷◌, ◌++◌, map, map-append}
 use native.Mathlib.Omega.{arith}
 use lib.ListN.{length, take, drop, get_or, set, replicate}
 use lib.Seq.{split_at, take_all}
+use Rattle.std.proofs.lemmas.List.{get_or-take, length-take-le}
 use Rattle.prelude.specs.Lists.{cons_of, all_of}
 use Rattle.prelude.proofs.Lists.{take_min}
 use Rattle.prelude.proofs.Made.{cons_first, cons_none, cons_some}
@@ -77,14 +78,19 @@ module _ (by : Translation) (n : ℕ) where
   seen_starts kernel = refl
 
   module _ (g : GroupList) (ids : List ℕ) (i end : ℕ) (inv : SeenTo g.ids ids i) (long : length g.ids ≡ max_groups) (few : end ≡ min g.count max_groups) where
-    pub seen_step : (x : ℕ) → i < end → x ≡ seen by Group n (get_or g.ids i 0) → SeenTo g.ids (set ids i x) (i + 1)
+    read : length (take end g.ids) ≡ end
+    read = length-take-le end g.ids (omega arith)
+
+    pub seen_step : (x : ℕ) → i < length (take end g.ids) → x ≡ seen by Group n (get_or (take end g.ids) i 0) → SeenTo g.ids (set ids i x) (i + 1)
     unfolding SeenTo seen_groups
     seen_step x h e =
-        rw (take_more g.ids i (omega arith), map-append (seen by Group n) (take i g.ids) (get_or g.ids i 0 ∷ []), ← e)
-        (filled_more (map (seen by Group n) (take i g.ids)) ids i x inv (omega arith))
+        let same : x ≡ seen by Group n (get_or g.ids i 0) = e ∙ ap (seen by Group n) (get_or-take end g.ids i 0 (omega (arith, read))) in
+        rw (take_more g.ids i (omega (arith, read)), map-append (seen by Group n) (take i g.ids) (get_or g.ids i 0 ∷ []), ← same)
+        (filled_more (map (seen by Group n) (take i g.ids)) ids i x inv (omega (arith, read)))
 
-    pub seen_ends : end ≡ i → ◌≡◌ {A = GroupList} (record { count = end; ids = ids }) (seen_groups by n g)
+    pub seen_ends : length (take end g.ids) ≡ i → ◌≡◌ {A = GroupList} (record { count = end; ids = ids }) (seen_groups by n g)
     unfolding SeenTo seen_groups
     seen_ends e =
-        let all : min g.count (length g.ids) ≡ i = omega arith in
-        rw (take_min g.count g.ids, all, e) (sym inv)
+        let all : min g.count (length g.ids) ≡ i = omega (arith, read) in
+        let last : end ≡ i = omega (arith, read) in
+        rw (take_min g.count g.ids, all, last) (sym inv)

@@ -5,4 +5,4 @@ use Rattle.credentials.proofs.GroupLists.{ListedTo}
 use Rattle.credentials.proofs.groups.kernel_groups.Given as goal
 
 abbrev pub invariant-loop-i : goal.invariant-loop-i
-invariant-loop-i l = ListedTo (by_kernel_starts (tables_of l.t)) l.«namespace» l.id-items l.ids l.i
+invariant-loop-i l = ListedTo (by_kernel_starts (tables_of l.t)) l.«namespace» l.list l.ids l.i

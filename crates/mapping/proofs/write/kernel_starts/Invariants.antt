@@ -9,5 +9,5 @@ use Rattle.mapping.proofs.write.kernel_starts.Given as goal
 abbrev pub invariant-loop-i : goal.invariant-loop-i
 invariant-loop-i l = record {
   long : length l.kernel ≡ max_lines;
-  starts : StartsTo (to_kernel (tables_of l.t) l.kind l.parent) l.l-items l.kernel l.i;
+  starts : StartsTo (to_kernel (tables_of l.t) l.kind l.parent) l.lines l.kernel l.i;
 }
