@@ -45,7 +45,7 @@ fn plain(answer: Result<Answer, Errno>) -> Result<Response, Errno>
     Ok(Response::Plain(answer?))
 }
 
-// What the own-ID question answers.
+// What the own-ID question answers: a name as that one is.
 fn own(ids: Result<OwnIds, Errno>) -> Result<Response, Errno>
     ensures { result ≡ own_of ids }
 {

@@ -28,7 +28,7 @@ impl CapabilitySet {
     // The set with no capability.
     pub const EMPTY: CapabilitySet = CapabilitySet { bits: 0 };
 
-    // The set with these bits: capability `n` is bit `n`.
+    // The set with these bits: capability `n` is bit `n`. Document 01 names a constructor, so this is no From.
     pub fn new(bits: u64) -> Self
         ensures { result ≡ record { bits = bits } }
     {

@@ -9,7 +9,6 @@ ghost use Rattle.credentials.specs.Calls.{kernel_groups, listed_of, set_groups_o
 use capability::CAP_SETGID;
 use hierarchy::capable::capable;
 use hierarchy::translate::to_kernel;
-use records::kinds::is_written;
 use records::{GroupList, Kind, MAX_GROUPS, Process};
 use tables::Tables;
 use tables::answer::{Answer, Errno};
@@ -49,7 +48,7 @@ pub fn setgroups(t: &mut Tables, caller: u64, list: &[u32]) -> Result<Answer, Er
     }
     let own = namespace_at(t, p.namespace as usize);
     // .. or group map unwritten, ..
-    if !is_written(own.groups.state) {
+    if !own.groups.state.is_written() {
         return Err(Errno::EPERM);
     }
     // .. or "deny".

@@ -29,6 +29,7 @@ fn choose(t: &Tables, kind: Kind, namespace: u64, id: u32, old: u32) -> Option<u
     }
 }
 
+// The three have names, so this is no `contains`.
 fn one_of(id: u32, ids: Ids) -> bool
     ensures { result ≡ is_one_of id ids }
 {
@@ -42,7 +43,8 @@ fn all_one_of(new: Ids, old: Ids) -> bool
     one_of(new.real, old) && one_of(new.effective, old) && one_of(new.saved, old)
 }
 
-// Whether the change takes the namespace's ID 0 from all three.
+// Whether the change takes the namespace's ID 0 from all three. What ID 0 is and both three go to this and the next two,
+// as the definitions take them.
 fn loses_all(zero: Option<u32>, old: Ids, new: Ids) -> bool
     ensures { result ≡ loses_all zero old new }
 {

@@ -18,7 +18,8 @@ pub enum Way {
     Back,
 }
 
-// An ID translated between the namespace at `place` and the initial one.
+// An ID translated between the namespace at `place` and the initial one. With the lookup as a closure this would still
+// choose between two.
 #[tactic(auto, unfolding(hierarchy::specs::KernelStarts::by_kernel_starts))]
 fn turned(t: &Tables, kind: Kind, way: Way, place: u64, id: u32) -> Option<u32>
     ensures { result ≡ turned (by_kernel_starts (tables_of t.now)) kind way place id }

@@ -1,7 +1,7 @@
 // Every call, and the journal of calls, for programs in other languages: bindings/c/oarhatchet.h has the C names and
 // types. Tables cross as one pointer to the lent array, texts, lists and buffers as pointer and length, answers as
-// numbers. C names a user's call and a group's each, and each way of a translation, so no function here is one over the
-// kind or the way.
+// numbers. C names each call, a user's and a group's, and each way of a translation, so no function here is one over
+// calls, kinds or ways.
 #![tactic(auto)]
 
 ghost use Rattle.std.specs.Prelude.{◌≡◌};
@@ -32,7 +32,7 @@ pub use words::RECORD_WORDS;
 pub(crate) fn refusal(e: Errno) -> u64
     ensures { result ≡ negated (number_of e) }
 {
-    0u64.wrapping_sub(e as u64)
+    (e as u64).wrapping_neg()
 }
 
 // The number of an answer or of a refusal.

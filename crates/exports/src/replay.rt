@@ -21,8 +21,7 @@ fn answer_of(step: Result<Option<Replayed>, Stopped>) -> Result<Response, Errno>
 {
     match step {
         Ok(Some(r)) => r.answer,
-        Ok(None) => Ok(Response::Plain(Answer::Done)),
-        Err(_) => Ok(Response::Plain(Answer::Done)),
+        Ok(None) | Err(_) => Ok(Response::Plain(Answer::Done)),
     }
 }
 
@@ -43,8 +42,7 @@ fn new_namespace(r: Result<Response, Errno>) -> u64
 {
     match r {
         Ok(Response::Plain(a)) => space(Ok(a), 0),
-        Ok(Response::Own(_)) => 0,
-        Err(_) => 0,
+        Ok(Response::Own(_)) | Err(_) => 0,
     }
 }
 

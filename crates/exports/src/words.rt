@@ -1,4 +1,4 @@
-// What stands at an offset of a journal, as words.
+// What stands at an offset of a journal, as the words that C is given, which are numbers and no types of their own.
 ghost use Rattle.std.specs.Prelude.{◌≡◌};
 ghost use Rattle.replay_step.specs.Replay.{read_in};
 ghost use Rattle.exports.specs.Replay.{found_words, plain_words, read_words};

@@ -52,7 +52,8 @@ pub const NO_LINE: Line = Line {
     count: 0,
 };
 
-// The lines of a map, in an array of as many as a map has, as there is no heap: those past the first `count` are empty.
+// The lines of a map: the first `count`, and empty ones past them. An array with its count, since a map keeps both as
+// they stand here, and the definition `map_text` says of all five lines what they are.
 #[derive(Clone, Copy)]
 pub struct MapLines {
     pub count: usize,

@@ -12,7 +12,7 @@ pub fn in_range(id: u32, start: u32, count: u32) -> bool
     id.wrapping_sub(start) < count
 }
 
-// The line from one column to another of a line's words.
+// The line from one column to another of a line's words. A column is a number, as the definition `line_of` takes it.
 fn line_of(row: [u64; LINE_WORDS], from: usize, to: usize) -> Line
     requires { (from < line_words) × (to < line_words) }
     ensures { result ≡ line_of from to row }

@@ -1,4 +1,6 @@
-// The text of a map that is to be written: lines of three decimal numbers.
+// The text of a map that is to be written: lines of three decimal numbers. Texts are read from a place on, as the
+// definitions of specs/Scan.antt have it. `map_reader` reads them too, apart from this, so that what was checked of this
+// reader stands: docs/DECISIONS.md.
 ghost use Rattle.std.specs.Prelude.{◌≡◌, ◌≤◌};
 ghost use Rattle.idmap.specs.Good.{no_id};
 ghost use Rattle.idmap.specs.Text.{is_blank, is_digit, map_lines, map_text};
@@ -7,6 +9,7 @@ ghost use Rattle.idmap.specs.Scan.{skipped, ended, number_at, field_at, line_end
 use super::overlap::good;
 use crate::{Line, MAX_LINES, MapLines, NO_ID, NO_LINE};
 
+// No method of bytes has just these two.
 fn is_blank(c: u8) -> bool
     ensures { result ≡ is_blank c }
 {
@@ -104,7 +107,8 @@ fn parse_line(s: &[u8]) -> Option<(Line, usize)>
     )
 }
 
-// The lines that a text says, if it is the text of a good map.
+// The lines that a text says, if it is the text of a good map. They are counted, since a text tells only at its end how
+// many it has.
 pub fn parse_map(text: &[u8]) -> Option<MapLines>
     ensures { result ≡ map_text (map_lines text.now) }
 {

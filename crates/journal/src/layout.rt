@@ -122,7 +122,8 @@ pub enum Lent {
     Buffer,
 }
 
-// What a record has after its call byte: names of eight bytes each, other numbers of four, and what is lent.
+// What a record has after its call byte: names of eight bytes each, other numbers of four, and what is lent. That there
+// are at most three of each is no part of it, since the definition `form_of` gives a form by its three parts.
 #[derive(Clone, Copy)]
 pub struct Form {
     pub names: usize,
@@ -165,7 +166,7 @@ pub fn fixed_bytes(c: Call) -> usize
     1 + f.names * NAME_BYTES + f.numbers * NUMBER_BYTES
 }
 
-// The names of a call in order, the caller first, and 0 past the last.
+// The names of a call in order, the caller first, and 0 past the last: as many as C has words for.
 #[tactic(auto, unfolding(crate::specs::Layout::names_of))]
 pub fn names_of(c: Call) -> [u64; 3]
     ensures { result ≡ first_three (names_of c) }

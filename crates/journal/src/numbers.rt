@@ -5,7 +5,7 @@ ghost use Rattle.journal.specs.Numbers.{big_endian, all_big_endian, number_at, n
 
 use crate::NUMBER_BYTES;
 
-// A number that is stored.
+// A number that is stored. It is no `Into<u64>`: contracts speak of `value`, which that has not.
 pub(crate) trait Number: Copy {
     ghost value: { Self → ℕ };
 
@@ -45,6 +45,7 @@ pub(crate) fn put_numbers<T: Number>(buffer: &mut [u8], at: usize, width: usize,
     requires room { at + length (all_big_endian width (map T.value numbers.now)) ≤ length buffer.old }
     ensures { buffer.new ≡ put_at buffer.old at (all_big_endian width (map T.value numbers.now)) }
 {
+    // A place that goes on by the width, as what is stored does.
     let mut place = at;
     for x in numbers {
         put_number(buffer, place, width, x.value());
@@ -52,7 +53,7 @@ pub(crate) fn put_numbers<T: Number>(buffer: &mut [u8], at: usize, width: usize,
     }
 }
 
-// The bytes at a place.
+// The bytes at a place, as a copy, of which a number is made.
 #[tactic(auto, unfolding(prelude::specs::Parts::part))]
 fn bytes_at<const W: usize>(s: &[u8], at: usize) -> [u8; W]
     requires { at + W ≤ length s.now }

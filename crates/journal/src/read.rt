@@ -25,7 +25,7 @@ pub enum Stop {
 }
 
 // A call, where its text or its list starts, how many bytes the one and IDs the other has, how long its buffer is, and
-// where the next record starts.
+// where the next record starts. What a call has none of is 0, as in the words that C is given.
 #[derive(Clone, Copy)]
 pub struct Record {
     pub call: Call,
@@ -212,7 +212,8 @@ fn record_at(journal: &[u8], at: usize) -> Read
     record_of(at, &journal[start..end])
 }
 
-// The record at an offset; at 0 the version byte is read, and the record after it.
+// The record at an offset; at 0 the version byte is read, and the record after it. A journal and an offset in it go
+// together in C too.
 #[tactic(auto, using(std::proofs::lemmas::Bool::Decides::nat_tests), unfolding(crate::specs::Reading::read_at))]
 fn version_then_record(journal: &[u8], at: usize) -> Read
     ensures { result ≡ read_at journal.now at }

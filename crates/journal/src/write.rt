@@ -1,4 +1,5 @@
-// The writer: a call's record, put into a buffer that the caller lends.
+// The writer: a call's record, put into a buffer that the caller lends. A buffer and a place in it go together, and each
+// function asks for the room of what it stores.
 ghost use Rattle.std.specs.Prelude.{◌≡◌, ◌+◌, ◌≤◌, length};
 ghost use Rattle.prelude.specs.Parts.{put_at};
 ghost use Rattle.journal.specs.Journal.{tail_of, body_of, record_of, long_buffer, write_of, buffer_by};
@@ -9,7 +10,7 @@ use calls::Call;
 use idmap::TWO_TO_32;
 use tables::answer::Errno;
 
-// What is lent beside a call: a text, a list, and how long a read's buffer is.
+// What is lent beside a call: a text, a list, and how long a read's buffer is, which of a record may be any number.
 #[derive(Clone, Copy)]
 pub struct Beside<'a> {
     pub text: &'a [u8],

@@ -1,5 +1,5 @@
 // The text of a map that is to be written: lines of three decimal numbers. Each byte is read once, by `see`, which
-// counts it.
+// counts it. `idmap` has the reader that the calls use: docs/DECISIONS.md.
 ghost use Rattle.std.specs.Prelude.{◌≡◌, ◌≤◌};
 ghost use Rattle.idmap.specs.Text.{is_blank, is_digit, map_lines, map_text};
 ghost use Rattle.idmap.specs.Scan.{skipped};
@@ -75,6 +75,7 @@ fn skip(s: &[u8], from: Seen) -> Seen
     ensures { result ≡ seen_at s.now (skipped s.now from.at) }
 {
     let mut c = from;
+    // There is no index beside the byte that is seen: it is one that was read and counted.
     while is_blank(c.byte) {
         c = see(s, c.at + 1, c.bytes);
     }
@@ -88,6 +89,7 @@ fn digits(s: &[u8], first: Seen) -> Result<(u32, Seen), Seen>
 {
     let mut c = first;
     let mut v: u64 = 0;
+    // As in `skip`.
     while is_digit(c.byte) {
         v = v * 10 + (c.byte - ZERO);
         if (NO_ID as u64) < v {
@@ -134,7 +136,8 @@ fn parse_line(s: &[u8]) -> Result<(Line, Seen), Seen>
 }
 
 // The lines that a text says, if it is the text of a good map, and how many bytes were read: all of a good text, and
-// never more than there are. Each line is read from what those before it left over.
+// never more than there are. Each line is read from what those before it left over, and they are counted, since a text
+// tells only at its end how many it has.
 pub fn read_text(text: &[u8]) -> TextRead
     ensures { result ≡ text_read text.now }
 {

@@ -7,7 +7,8 @@ use idmap::text::parse_map;
 use std::io;
 use std::io::Write;
 
-// Writes a byte of a text: a newline, a tab and what is not printable as an escape.
+// Writes a byte of a text: a newline, a tab and what is not printable as an escape. `script` has another form, in which
+// a quote and a backslash are escapes too, and stands above crates that are not needed here.
 fn print_byte<W: Write>(to: &mut W, c: u8) -> io::Result<()> {
     match c {
         b'\n' => to.write_all(b"\\n"),

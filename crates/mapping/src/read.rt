@@ -11,7 +11,7 @@ use hierarchy::translate::{from_kernel, to_kernel};
 use idmap::show::{LINE_BYTES, put_line};
 use idmap::{Line, MAX_LINES, NO_ID};
 use records::kinds::map_in;
-use records::{IdMap, Kind, MapState, Process};
+use records::{IdMap, Kind, Process};
 use tables::Tables;
 use tables::answer::{Answer, Errno};
 use tables::find::{find_caller, named_process};
@@ -44,17 +44,15 @@ fn shown(t: &Tables, kind: Kind, n: u64, v: u64, l: Line) -> Line
     Line { parent, ..l }
 }
 
-// How many lines a map has.
+// How many lines a map has, as far as it has places for them.
 fn line_count(m: IdMap) -> usize
     ensures { result ≡ line_count m.state }
 {
-    match m.state {
-        MapState::Unwritten => 0,
-        MapState::Written(n) => n.min(MAX_LINES),
-    }
+    m.state.count().min(MAX_LINES)
 }
 
-// Stores lines, as namespace `v` sees them, at the front of a buffer that has room for them.
+// Stores lines, as namespace `v` sees them, at the front of a buffer that has room for them. The places are counted:
+// nothing is known of what a zip over parts of the buffer writes.
 fn put_lines(t: &Tables, kind: Kind, n: u64, v: u64, lines: &[Line], buffer: &mut [u8])
     requires { length lines.now * line_bytes ≤ length buffer.old }
     ensures { buffer.new ≡ put_at buffer.old 0 (lines_text (map (quick shown_line (tables_of t.now) kind n v) lines.now)) }

@@ -7,7 +7,6 @@ ghost use Rattle.mapping.specs.Calls.{setting_in, write_setgroups_to, write_setg
 use capability::CAP_SYS_ADMIN;
 use hierarchy::capable::capable;
 use records::Process;
-use records::kinds::is_written;
 use tables::Tables;
 use tables::answer::{Answer, Errno};
 use tables::find::{find_caller, named_process};
@@ -19,6 +18,7 @@ use tables::processes::process_at;
 fn asked_setting(text: &[u8]) -> Option<bool>
     ensures { result ≡ setting_in text.now }
 {
+    // Compared whole: a match of byte strings is 25 cases, and not all of them were proved.
     if text == b"deny".as_slice() || text == b"deny\n".as_slice() {
         return Some(true);
     }
@@ -41,7 +41,7 @@ fn write_to(t: &mut Tables, w: Process, n: u64, text: &[u8]) -> Result<Answer, E
     // 22 unless the text is exactly one of the words.
     let deny = asked_setting(text).ok_or(Errno::EINVAL)?;
     // "deny" gets 1 if the group map is written.
-    if deny && is_written(target.groups.state) {
+    if deny && target.groups.state.is_written() {
         return Err(Errno::EPERM);
     }
     // "allow" gets 1 if the setting is "deny".

@@ -1,4 +1,5 @@
-// The write of a user or group map.
+// The write of a user or group map. The kind, the writer and the namespace written to go to each test, as the definitions
+// take them.
 ghost use Rattle.std.specs.Prelude.{◌≡◌, ◌≤◌, length};
 ghost use Rattle.std.specs.List.{list_all};
 ghost use Rattle.idmap.specs.Good.{max_lines};
@@ -14,7 +15,7 @@ use hierarchy::translate::to_kernel;
 use idmap::range::lies_whole;
 use idmap::text::parse_map;
 use idmap::{Line, MAX_LINES, MAX_TEXT_BYTES, NO_ID};
-use records::kinds::{ids_in, is_written, map_in, set_id};
+use records::kinds::{by_kind, ids_in, map_in, set_id};
 use records::{IdMap, Kind, MapState, Namespace, Process};
 use tables::Tables;
 use tables::answer::{Answer, Errno};
@@ -34,10 +35,7 @@ fn near(w: Process, n: u64, target: Namespace) -> bool
 fn may_by_kind(kind: Kind, deny: bool) -> bool
     ensures { result ≡ may_by_kind kind deny }
 {
-    match kind {
-        Kind::User => true,
-        Kind::Group => deny,
-    }
+    by_kind(kind, true, deny)
 }
 
 // Whether the lines are one line for the writer's own effective ID, and the writer owns the namespace.
@@ -143,7 +141,7 @@ fn write_to(t: &mut Tables, kind: Kind, w: Process, n: u64, text: &[u8]) -> Resu
         return Err(Errno::EINVAL);
     }
     // 1 if already written.
-    if is_written(map_in(kind, target).state) {
+    if map_in(kind, target).state.is_written() {
         return Err(Errno::EPERM);
     }
     // 1 without SETUID (user) or SETGID (group) in the target.

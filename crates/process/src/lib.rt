@@ -72,7 +72,7 @@ fn member(p: Process, namespace: u64) -> Process
     }
 }
 
-// The place of a process that makes a namespace, and the free place for this with its number.
+// The place of a process that makes a namespace, and the free place for this with its number, which `tables` alone knows.
 #[derive(Clone, Copy)]
 struct Maker {
     place: usize,

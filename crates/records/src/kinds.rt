@@ -1,8 +1,8 @@
 // What goes by the kind of an ID.
 ghost use Rattle.std.specs.Prelude.{◌≡◌};
-ghost use Rattle.records.specs.Records.{by_kind, ids_in, map_in, set_id_of, is_written};
+ghost use Rattle.records.specs.Records.{by_kind, ids_in, map_in, set_id_of};
 
-use crate::{IdMap, Ids, Kind, MapState, Namespace, Process};
+use crate::{IdMap, Ids, Kind, Namespace, Process};
 use capability::{CAP_SETGID, CAP_SETUID};
 
 // What goes by the kind: what users have, or groups.
@@ -15,7 +15,8 @@ pub fn by_kind<T: Copy>(kind: Kind, user: T, group: T) -> T
     }
 }
 
-// A process's IDs of a kind.
+// A process's IDs of a kind. This and the next name the two parts between which the kind chooses, which is all that they
+// are.
 pub fn ids_in(kind: Kind, p: Process) -> Ids
     ensures { result ≡ ids_in kind p }
 {
@@ -34,11 +35,4 @@ pub fn set_id(kind: Kind) -> u32
     ensures { result ≡ set_id_of kind }
 {
     by_kind(kind, CAP_SETUID, CAP_SETGID)
-}
-
-// Whether a map is written.
-pub fn is_written(s: MapState) -> bool
-    ensures { result ≡ is_written s }
-{
-    matches!(s, MapState::Written(_))
 }

@@ -2,6 +2,9 @@
 // record, and a record is laid out as words that are read as it.
 #![tactic(auto)]
 
+ghost use Rattle.std.specs.Prelude.{◌≡◌};
+ghost use Rattle.records.specs.Records.{is_written, state_count};
+
 pub mod kinds;
 pub mod namespaces;
 pub mod processes;
@@ -67,14 +70,32 @@ pub enum MapState {
     Written(usize),
 }
 
+impl MapState {
+    pub fn is_written(self) -> bool
+        ensures { result ≡ is_written self }
+    {
+        matches!(self, MapState::Written(_))
+    }
+
+    // How many lines the map has: none before it is written.
+    pub fn count(self) -> usize
+        ensures { result ≡ state_count self }
+    {
+        match self {
+            MapState::Unwritten => 0,
+            MapState::Written(n) => n,
+        }
+    }
+}
+
 #[derive(Clone, Copy)]
 pub struct IdMap {
     pub state: MapState,
     pub lines: [Line; MAX_LINES],
 }
 
-// A namespace, or that the place has none, as for a process: `namespace_of`. Its parent is a place and no box, since
-// all tables stand in one lent array.
+// A namespace, or that the place has none, as for a process: `namespace_of`. Its parent is a place and no box, and so is
+// a process's namespace, since all tables stand in one lent array.
 #[derive(Clone, Copy)]
 pub struct Namespace {
     pub live: bool,

@@ -1,10 +1,11 @@
-// A namespace and its row of words, and the words of a map in it.
+// A namespace and its row of words, and the words of a map in it. They become one another by functions and not by From:
+// as for a process.
 ghost use Rattle.std.specs.Prelude.{◌≡◌, ◌+◌, ◌*◌, ◌<◌, ◌≤◌, take, drop, length};
 ghost use Rattle.idmap.specs.Good.{max_lines};
 ghost use Rattle.idmap.specs.Line.{line_words, inside_column, parent_column, kernel_column, line_of, line_at};
-ghost use Rattle.records.specs.Records.{low_at, starts_in, starts_from, Cleared, unmapped, state_of, state_count, first_line_at, map_width, map_at, map_of, map_from, LinesOf, free_map, free_namespace, namespace_width, namespace_of, namespace_from};
+ghost use Rattle.records.specs.Records.{low_at, starts_in, starts_from, Cleared, unmapped, state_of, first_line_at, map_width, map_at, map_of, map_from, LinesOf, free_map, free_namespace, namespace_width, namespace_of, namespace_from};
 
-use crate::kinds::{by_kind, is_written};
+use crate::kinds::by_kind;
 use crate::{IdMap, Kind, MapState, Namespace};
 use idmap::{LINE_WORDS, Line, MAX_LINES, NO_LINE, low};
 use std::array;
@@ -60,15 +61,6 @@ fn state_of(tag: u64, n: u64) -> MapState
     }
 }
 
-fn state_count(s: MapState) -> u64
-    ensures { result ≡ state_count s }
-{
-    match s {
-        MapState::Unwritten => 0,
-        MapState::Written(n) => n as u64,
-    }
-}
-
 // Line `i` of a map's words, as it was written.
 fn line_of(words: &[u64; MAP_WIDTH], i: usize) -> Line
     requires { i < max_lines }
@@ -111,15 +103,15 @@ pub fn map_words(m: IdMap, kernel: [u32; MAX_LINES]) -> [u64; MAP_WIDTH]
     ensures written { map_of result ≡ m }
     ensures kept { starts_in result ≡ kernel }
 {
-    // By name: that `as_flattened` of an array made by `from_fn` is these words was not proved.
+    // By name: of neither five copies into a row nor `as_flattened` of what `from_fn` makes was this proved.
     let a = line_words(m.lines[0], kernel[0]);
     let b = line_words(m.lines[1], kernel[1]);
     let c = line_words(m.lines[2], kernel[2]);
     let d = line_words(m.lines[3], kernel[3]);
     let e = line_words(m.lines[4], kernel[4]);
     [
-        is_written(m.state) as u64,
-        state_count(m.state),
+        m.state.is_written() as u64,
+        m.state.count() as u64,
         a[0],
         a[1],
         a[2],

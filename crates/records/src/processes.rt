@@ -1,6 +1,7 @@
-// A process and its row of words.
-ghost use Rattle.std.specs.Prelude.{◌≡◌, [], ◌∷◌};
-ghost use Rattle.records.specs.Records.{process_width, free_process, process_of, process_from};
+// A process and its row of words. The two become one another by functions and not by From, since a row is a slice of any
+// length, and `process_of` of its words is what contracts speak of.
+ghost use Rattle.std.specs.Prelude.{◌≡◌, ◌+◌, ◌≤◌, [], ◌∷◌};
+ghost use Rattle.records.specs.Records.{ids_at, process_width, free_process, process_of, process_from};
 
 use crate::{GroupList, Ids, MAX_GROUPS, NO_GROUPS, Process, ZERO_IDS};
 use capability::CapabilitySet;
@@ -27,6 +28,18 @@ const EFFECTIVE: usize = PERMITTED + 1;
 // The words of a process's row.
 pub const PROCESS_WIDTH: usize = EFFECTIVE + 1;
 
+// The three IDs of a kind, from a place of a row on.
+fn ids_at(row: &[u64; PROCESS_WIDTH], at: usize) -> Ids
+    requires { at + 3 ≤ process_width }
+    ensures { result ≡ ids_at row.now at }
+{
+    Ids {
+        real: low(row[at]),
+        effective: low(row[at + 1]),
+        saved: low(row[at + 2]),
+    }
+}
+
 // The record of a whole row. IDs are kept in the low 32 bits of their words.
 fn read_process(row: &[u64; PROCESS_WIDTH]) -> Process
     ensures { result ≡ process_of row.now }
@@ -34,16 +47,8 @@ fn read_process(row: &[u64; PROCESS_WIDTH]) -> Process
     Process {
         live: row[LIVE] == 1,
         namespace: row[NAMESPACE],
-        users: Ids {
-            real: low(row[USERS]),
-            effective: low(row[USERS + 1]),
-            saved: low(row[USERS + 2]),
-        },
-        groups: Ids {
-            real: low(row[GROUPS]),
-            effective: low(row[GROUPS + 1]),
-            saved: low(row[GROUPS + 2]),
-        },
+        users: ids_at(row, USERS),
+        groups: ids_at(row, GROUPS),
         supplementary: GroupList {
             count: row[SUPPLEMENTARY],
             // By name: 16 calls of `from_fn` or `map` are more than is found.

@@ -37,6 +37,7 @@ impl<W: Write> Replay<'_, W> {
     }
 
     // Makes the calls of the whole records that the window has, and answers what stops the next one, if anything does.
+    // The turns are counted, as in `serve`.
     fn replay_whole(&mut self) -> io::Result<Option<Stopped>> {
         for _ in 0..u64::MAX {
             match step(

@@ -16,7 +16,8 @@ fn process_number(place: usize) -> u64
     place as u64 + 1
 }
 
-// The number of the namespace in a place: namespace 0 is in place 0.
+// The number of the namespace in a place: namespace 0 is in place 0. A function as the one above, since definitions name
+// both.
 fn namespace_number(place: usize) -> u64
     ensures { result ≡ namespace_number place }
 {

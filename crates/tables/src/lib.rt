@@ -27,4 +27,5 @@ const NAMESPACES_AT: usize = PROCESSES_AT + PROCESS_PLACES * PROCESS_WIDTH;
 // The words of both.
 pub const TABLES_WIDTH: usize = NAMESPACES_AT + NAMESPACE_PLACES * NAMESPACE_WIDTH;
 
+// An array and no struct with a model: a program lends it as words.
 pub type Tables = [u64; TABLES_WIDTH];

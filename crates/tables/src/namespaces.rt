@@ -1,4 +1,5 @@
-// The namespace table.
+// The namespace table. Its functions are not generic over the process table too: a trait's members would be all of what
+// they do.
 ghost use Rattle.std.specs.Prelude.{◌≡◌, ◌+◌, ◌*◌, ◌<◌};
 ghost use Rattle.records.specs.Records.{namespace_width, free_namespace, map_in, with_deny, unmapped, LinesOf};
 ghost use Rattle.tables.specs.Tables.{namespace_places, namespaces_at, tables_of, namespace_at, starts_at, put_namespace, clear_starts, put_map};

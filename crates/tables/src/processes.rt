@@ -1,4 +1,5 @@
-// The process table.
+// The process table. It and the namespace table have no functions generic over both: a trait's members would be all of
+// what these do.
 ghost use Rattle.std.specs.Prelude.{◌≡◌};
 ghost use Rattle.tables.specs.Tables.{tables_of, process_at, put_process};
 
