@@ -4,26 +4,27 @@
 
 use idmap::Line;
 use idmap::text::parse_map;
-use std::io;
 use std::io::Write;
+use std::{fmt, io};
 
-// Writes a byte of a text: a newline, a tab and what is not printable as an escape. `script` has another form, in which
-// a quote and a backslash are escapes too, and stands above crates that are not needed here.
-fn print_byte<W: Write>(to: &mut W, c: u8) -> io::Result<()> {
-    match c {
-        b'\n' => to.write_all(b"\\n"),
-        b'\t' => to.write_all(b"\\t"),
-        32..=126 => to.write_all(&[c]),
-        _ => write!(to, "\\x{c:02x}"),
-    }
-}
+// A text in quotes: a newline, a tab and what is not printable as an escape. `script` has another form, in which a quote
+// and a backslash are escapes too, and stands above crates that are not needed here.
+#[derive(Clone, Copy)]
+struct Quoted<'a>(&'a [u8]);
 
-fn print_quoted<W: Write>(to: &mut W, text: &[u8]) -> io::Result<()> {
-    to.write_all(b"\"")?;
-    for c in text {
-        print_byte(to, *c)?;
+impl fmt::Display for Quoted<'_> {
+    fn fmt<W: fmt::Write>(&self, f: &mut fmt::Formatter<W>) -> fmt::Result {
+        f.write_str("\"")?;
+        for b in self.0 {
+            match *b {
+                b'\n' => f.write_str("\\n")?,
+                b'\t' => f.write_str("\\t")?,
+                b' '..=b'~' => f.write_char(char::from(*b))?,
+                _ => write!(f, "\\x{b:02x}")?,
+            }
+        }
+        f.write_str("\"")
     }
-    to.write_all(b"\"\n")
 }
 
 fn print_lines<W: Write>(to: &mut W, lines: &[Line]) -> io::Result<()> {
@@ -34,7 +35,7 @@ fn print_lines<W: Write>(to: &mut W, lines: &[Line]) -> io::Result<()> {
 }
 
 fn show<W: Write>(to: &mut W, text: &[u8]) -> io::Result<()> {
-    print_quoted(to, text)?;
+    writeln!(to, "{}", Quoted(text))?;
     match parse_map(text) {
         Some(lines) => print_lines(to, lines.as_slice()),
         None => to.write_all(b"bad\n"),

@@ -51,7 +51,7 @@ fn read_process(row: &[u64; PROCESS_WIDTH]) -> Process
         groups: ids_at(row, GROUPS),
         supplementary: GroupList {
             count: row[SUPPLEMENTARY],
-            // By name: 16 calls of `from_fn` or `map` are more than is found.
+            // By name: of `from_fn` and of `map` over 16 places this was not proved.
             ids: [
                 low(row[SUPPLEMENTARY + 1]),
                 low(row[SUPPLEMENTARY + 2]),
