@@ -48,7 +48,7 @@ pub fn translate(
     let place = find_caller(t, caller).ok_or(Errno::ESRCH)?;
     // Then the namespace named, else 3.
     let n = named_namespace(t, place, name).ok_or(Errno::ESRCH)?;
-    // An ID, or "unmapped", which is an answer.
+    // An ID, or "unmapped", which is an answer: a match names both.
     match turned(t, kind, way, n as u64, id) {
         Some(x) => Ok(Answer::Id(x)),
         None => Ok(Answer::Unmapped),

@@ -1,4 +1,4 @@
-// The records of calls, for programs in other languages that keep a journal.
+// The records of calls, for programs in other languages that keep a journal, which are given numbers.
 ghost use Rattle.std.specs.Prelude.{◌≡◌};
 ghost use Rattle.journal.specs.Layout.{template_of};
 ghost use Rattle.exports.specs.Journal.{written_code, write_by, buffer_after};

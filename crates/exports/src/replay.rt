@@ -1,4 +1,4 @@
-// The next call of a journal, for programs in other languages.
+// The next call of a journal, for programs in other languages, which are given numbers.
 ghost use Rattle.std.specs.Prelude.{◌≡◌};
 ghost use Rattle.calls.specs.Calls.{call_reply};
 ghost use Rattle.journal.specs.Reading.{read_at, list_after};

@@ -51,6 +51,7 @@ fn made(at: usize, end: usize, v: u64) -> Option<(u32, usize)>
 fn digits(s: &[u8], at: usize) -> Option<(u32, usize)>
     ensures { result ≡ number_at s.now at }
 {
+    // Wider than a number, so that one digit more has room.
     let mut v: u64 = 0;
     for i in at..s.len() {
         let c = s[i];

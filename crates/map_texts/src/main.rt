@@ -27,6 +27,7 @@ impl fmt::Display for Quoted<'_> {
     }
 }
 
+// Writes lines, whose texts are bytes already.
 fn print_lines<W: Write>(to: &mut W, lines: &[Line]) -> io::Result<()> {
     for line in lines {
         to.write_all(&idmap::show::line_text(*line))?;

@@ -26,7 +26,8 @@ struct Recorder<W> {
 }
 
 impl<W: Write> Recorder<W> {
-    // Makes the record of a line, and answers how many bytes it has, which are none of a blank line and of a comment.
+    // Makes the record of a line, and answers how many bytes it has, which are none of a blank line and of a comment. It
+    // answers no slice, since this would lend all of the recorder while its output is written.
     #[tactic(auto, unfolding(journal::specs::Journal::write_of))]
     fn record(&mut self, line: &[u8]) -> Result<usize, Stop>
         ensures { IfOk result (λ n. n ≤ 65537) }
