@@ -1,5 +1,5 @@
-// The text of a map that is read: each line as three numbers in columns. No `format!` of the numbers: contracts name each
-// byte, and a read of a map has a bar of speed.
+// The text of a map that is read: each line as three numbers in columns. Not by `{:>10}`: contracts name each byte, and a
+// read of a map has a bar of speed.
 ghost use Rattle.std.specs.Prelude.{◌≡◌};
 ghost use Rattle.prelude.specs.Parts.{fits_at, put_at};
 ghost use Rattle.idmap.specs.Show.{column_of, number_text, line_text};

@@ -8,7 +8,6 @@ ghost use Rattle.records.specs.Records.{low_at, starts_in, starts_from, Cleared,
 use crate::kinds::by_kind;
 use crate::{IdMap, Kind, MapState, Namespace};
 use idmap::{LINE_WORDS, Line, MAX_LINES, NO_LINE, low};
-use std::array;
 
 // Where the parts of a map stand among its words.
 const STATE: usize = 0;
@@ -80,7 +79,15 @@ fn map_of(words: &[u64; MAP_WIDTH]) -> IdMap
 {
     IdMap {
         state: state_of(words[STATE], words[COUNT]),
-        lines: array::from_fn(|i| line_of(words, i)),
+        // By name: with `from_fn`, which is not left out where no line is looked at, the walk of `capable` through 32
+        // levels takes 700 ns where the bar is 200.
+        lines: [
+            line_of(words, 0),
+            line_of(words, 1),
+            line_of(words, 2),
+            line_of(words, 3),
+            line_of(words, 4),
+        ],
     }
 }
 
