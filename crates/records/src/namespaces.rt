@@ -8,6 +8,7 @@ ghost use Rattle.records.specs.Records.{low_at, starts_in, starts_from, Cleared,
 use crate::kinds::by_kind;
 use crate::{IdMap, Kind, MapState, Namespace};
 use idmap::{LINE_WORDS, Line, MAX_LINES, NO_LINE, low};
+use std::array;
 
 // Where the parts of a map stand among its words.
 const STATE: usize = 0;
@@ -73,21 +74,15 @@ fn line_of(words: &[u64; MAP_WIDTH], i: usize) -> Line
     }
 }
 
-// The map that a map's words hold.
+// The map that a map's words hold. This and what reads a namespace's row by it are inlined, so that a walk through
+// namespaces makes no lines, which it does not look at.
+#[inline(always)]
 fn map_of(words: &[u64; MAP_WIDTH]) -> IdMap
     ensures { result ≡ map_of words.now }
 {
     IdMap {
         state: state_of(words[STATE], words[COUNT]),
-        // By name: with `from_fn`, which is not left out where no line is looked at, the walk of `capable` through 32
-        // levels takes 700 ns where the bar is 200.
-        lines: [
-            line_of(words, 0),
-            line_of(words, 1),
-            line_of(words, 2),
-            line_of(words, 3),
-            line_of(words, 4),
-        ],
+        lines: array::from_fn(|i| line_of(words, i)),
     }
 }
 
@@ -151,6 +146,7 @@ fn map_part(row: &[u64; NAMESPACE_WIDTH], at: usize) -> &[u64; MAP_WIDTH]
 }
 
 // The record of a whole row.
+#[inline(always)]
 fn read_namespace(row: &[u64; NAMESPACE_WIDTH]) -> Namespace
     ensures { result ≡ namespace_of row.now }
 {
@@ -206,6 +202,7 @@ pub fn free_namespace() -> Namespace
 
 // The record that a row holds. A row of another length holds none. It is no function generic over the two records: a
 // trait's members, the width, the reading and the free record, would be all of what it does.
+#[inline(always)]
 #[tactic(auto, unfolding(crate::specs::Records::namespace_from))]
 pub fn namespace_of(row: &[u64]) -> Namespace
     ensures { result ≡ namespace_from row.now }

@@ -13,6 +13,7 @@ use records::namespaces::{
 use records::{IdMap, Kind, Namespace};
 
 // The namespace in a place of the table. A place past the end has none.
+#[inline(always)]
 pub fn namespace_at(t: &Tables, place: usize) -> Namespace
     ensures { result ≡ namespace_at (tables_of t.now) place }
 {
