@@ -17,7 +17,7 @@ pub struct TextRead {
 
 // A byte, where it stands, and how many bytes were read up to it. The text's end is seen as a newline.
 // A struct of this and the text, with `from ≡ seen_at s.now from.at` as its invariant, is proved but slower by a
-// quarter.
+// quarter: no longer one and a half times as fast as the reader of `idmap`, which is what this one is for.
 #[derive(Clone, Copy)]
 struct Seen {
     byte: u64,
