@@ -43,8 +43,8 @@ fn all_one_of(new: Ids, old: Ids) -> bool
     one_of(new.real, old) && one_of(new.effective, old) && one_of(new.saved, old)
 }
 
-// Whether the change takes the namespace's ID 0 from all three. What ID 0 is and both three go to this and the next two,
-// as the definitions take them.
+// Whether the change takes the namespace's ID 0 from all three. What ID 0 is, the old three and the new are parameters
+// here and in the next, as of the definitions.
 fn loses_all(zero: Option<u32>, old: Ids, new: Ids) -> bool
     ensures { result ≡ loses_all zero old new }
 {
@@ -80,6 +80,7 @@ fn with_users(zero: Option<u32>, p: Process, new: Ids) -> Process
     }
 }
 
+// The process with new IDs of a kind. A match, since `by_kind` would make both records.
 #[tactic(auto, unfolding(crate::specs::Calls::with_groups, hierarchy::specs::KernelStarts::by_kernel_starts))]
 fn with_ids(t: &Tables, kind: Kind, p: Process, new: Ids) -> Process
     ensures { result ≡ with_ids (by_kernel_starts (tables_of t.now)) kind p new }

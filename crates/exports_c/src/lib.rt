@@ -1,5 +1,5 @@
 // The functions of `exports` under their C names, as a static library: bindings/c/oarhatchet.h declares them. Each
-// promises what the function of that name in `exports` does.
+// promises what the function of that name in `exports` does. There is one for each name that C has.
 #![tactic(auto)]
 
 ghost use Rattle.std.specs.Prelude.{◌≡◌};

@@ -137,7 +137,7 @@ pub fn map_words(m: IdMap, kernel: [u32; MAX_LINES]) -> [u64; MAP_WIDTH]
     ]
 }
 
-// The words of a map in a namespace's row.
+// The words of a map in a namespace's row, where they stand and not as a copy.
 fn map_part(row: &[u64; NAMESPACE_WIDTH], at: usize) -> &[u64; MAP_WIDTH]
     requires { at + map_width ≤ namespace_width }
     ensures { result.now ≡ take map_width (drop at row.now) }

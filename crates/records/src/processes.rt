@@ -1,5 +1,5 @@
-// A process and its row of words. The two become one another by functions and not by From, since a row is a slice of any
-// length, and `process_of` of its words is what contracts speak of.
+// A process and its row of words. The two become one another by functions and not by From: contracts name the definitions
+// that these functions are, and `process_of` takes a row of any length.
 ghost use Rattle.std.specs.Prelude.{◌≡◌, ◌+◌, ◌≤◌, [], ◌∷◌};
 ghost use Rattle.records.specs.Records.{ids_at, process_width, free_process, process_of, process_from};
 
@@ -125,7 +125,7 @@ pub fn free_process() -> Process
     }
 }
 
-// The record that a row holds. A row of another length holds none.
+// The record that a row holds. A row of another length holds none. As `namespace_of`, it is not generic over both.
 #[tactic(auto, unfolding(crate::specs::Records::process_from))]
 pub fn process_of(row: &[u64]) -> Process
     ensures { result ≡ process_from row.now }
