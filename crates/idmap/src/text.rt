@@ -34,7 +34,7 @@ fn skip(s: &[u8], at: usize) -> usize
     at.max(s.len())
 }
 
-// The number `v`, read from `at` to `end`, and where it ends.
+// The number `v`, read from `at` to `end`, and where it ends. While it is read it is wider, for one digit more.
 #[tactic(auto, unfolding(crate::specs::Scan::ended))]
 fn made(at: usize, end: usize, v: u64) -> Option<(u32, usize)>
     requires { v ≤ no_id }

@@ -25,7 +25,8 @@ struct Seen {
     bytes: usize,
 }
 
-// Bytes that have a meaning. They are widened as they are read, so that a digit's value needs no further step.
+// Bytes that have a meaning. They are widened as they are read, so that a digit's value needs no further step, which is
+// for speed. So the next two functions are not methods of bytes.
 const NEWLINE: u64 = b'\n' as u64;
 
 const SPACE: u64 = b' ' as u64;

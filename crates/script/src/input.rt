@@ -7,7 +7,8 @@ use std::io::Read;
 // The most bytes that one read brings.
 const PIECE: usize = 65536;
 
-// The room for a line that is gathered: one byte more than a line may have shows that it is too long.
+// The room for a line that is gathered: one byte more than a line may have shows that it is too long, so that nothing
+// beside it has to say so.
 const LINE_ROOM: usize = MAX_LINE + 1;
 
 // What a program does with the lines of its input.

@@ -62,7 +62,7 @@ impl TryFrom<u64> for BufferLength {
 }
 
 // What a line lends to its call: a text and a list, which are empty where it has none, and how long the buffer of a
-// read is.
+// read is, which is bounded, or missing. A record of a journal has any number for it.
 #[derive(Clone, Copy)]
 pub struct Lent<'a> {
     pub text: &'a [u8],
