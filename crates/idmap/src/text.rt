@@ -22,16 +22,16 @@ fn is_digit(c: u8) -> bool
     c.is_ascii_digit()
 }
 
-// Where the blanks from `at` on end.
+// Where the blanks from `at` on end. It steps a cursor, as `digits` does: a `for` over the places keeps up to five
+// counters, which are half as many instructions again for each byte of a long text.
 fn skip(s: &[u8], at: usize) -> usize
     ensures { result ≡ skipped s.now at }
 {
-    for i in at..s.len() {
-        if !is_blank(s[i]) {
-            return i;
-        }
+    let mut end = at;
+    while end < s.len() && is_blank(s[end]) {
+        end += 1;
     }
-    at.max(s.len())
+    end
 }
 
 // The number `v`, read from `at` to `end`, and where it ends. While it is read it is wider, for one digit more.
@@ -53,17 +53,15 @@ fn digits(s: &[u8], at: usize) -> Option<(u32, usize)>
 {
     // Wider than a number, so that one digit more has room.
     let mut v: u64 = 0;
-    for i in at..s.len() {
-        let c = s[i];
-        if !is_digit(c) {
-            return made(at, i, v);
-        }
-        v = v * 10 + (c - b'0') as u64;
+    let mut end = at;
+    while end < s.len() && is_digit(s[end]) {
+        v = v * 10 + (s[end] - b'0') as u64;
         if (NO_ID as u64) < v {
             return None;
         }
+        end += 1;
     }
-    made(at, at.max(s.len()), v)
+    made(at, end, v)
 }
 
 // The number after any blanks.
