@@ -82,7 +82,9 @@ pub fn byte_of(c: Call) -> u8
     }
 }
 
-// The call of a call byte, with all its numbers 0, if there is one.
+// The call of a call byte, with all its numbers 0, if there is one. It is inlined, as `record_at` is: a call that is
+// handed on in memory is stored byte by byte and loaded by the word, for which a processor waits.
+#[inline(always)]
 #[tactic(auto, using(crate::proofs::Layouts::template_none), unfolding(crate::specs::Layout::template_of, crate::specs::Layout::with_byte, crate::specs::Layout::byte_of))]
 pub fn template_of(byte: u8) -> Option<Call>
     ensures { result ≡ template_of byte }

@@ -185,7 +185,8 @@ fn record_of(at: usize, body: &[u8]) -> Read
     record_in(at, body, call)
 }
 
-// The record at an offset past the version byte.
+// The record at an offset past the version byte. It is inlined, as `layout::template_of` says.
+#[inline(always)]
 #[tactic(auto, using(std::proofs::lemmas::Bool::Decides::nat_tests), unfolding(crate::specs::Reading::record_at, prelude::specs::Parts::part))]
 fn record_at(journal: &[u8], at: usize) -> Read
     ensures { result ≡ record_at journal.now at }
@@ -218,14 +219,12 @@ fn record_at(journal: &[u8], at: usize) -> Read
 fn version_then_record(journal: &[u8], at: usize) -> Read
     ensures { result ≡ read_at journal.now at }
 {
-    if at > 0 {
-        return record_at(journal, at);
-    }
     // A journal begins with its version.
-    if journal.is_empty() || journal[0] != VERSION {
+    if at == 0 && (journal.is_empty() || journal[0] != VERSION) {
         return Err(Stop::Version.at(0));
     }
-    record_at(journal, 1)
+    // One call, since its body is inlined.
+    record_at(journal, at.max(1))
 }
 
 // The record at an offset of a journal; at 0 the version byte, and the record after it. The IDs of its list are put
