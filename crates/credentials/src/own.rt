@@ -6,7 +6,7 @@ ghost use Rattle.credentials.specs.Calls.{seen, seen_ids, seen_groups, own_ids_o
 
 use hierarchy::translate::from_kernel;
 use idmap::OVERFLOW_ID;
-use records::{GroupList, Ids, Kind, MAX_GROUPS};
+use records::{GroupList, Ids, Kind, MAX_GROUPS, NO_GROUPS, ZERO_IDS};
 use tables::Tables;
 use tables::answer::Errno;
 use tables::find::find_caller;
@@ -19,6 +19,13 @@ pub struct OwnIds {
     pub groups: Ids,
     pub supplementary: GroupList,
 }
+
+// Own IDs that are all 0, and no groups: what stands for none.
+pub const NO_OWN_IDS: OwnIds = OwnIds {
+    users: ZERO_IDS,
+    groups: ZERO_IDS,
+    supplementary: NO_GROUPS,
+};
 
 // A kernel ID as a namespace sees it.
 #[tactic(auto, unfolding(hierarchy::specs::KernelStarts::by_kernel_starts))]
