@@ -2,7 +2,7 @@
 ghost use Rattle.std.specs.Prelude.{◌≡◌};
 ghost use Rattle.calls.specs.Calls.{call_reply};
 ghost use Rattle.journal.specs.Reading.{read_at, list_after};
-ghost use Rattle.replay_step.specs.Replay.{answer_in, Unchanged};
+ghost use Rattle.replay_step.specs.Replay.{Unchanged};
 ghost use Rattle.exports.specs.Codes.{space_after};
 ghost use Rattle.exports.specs.Replay.{response_code, response_ids, read_words, ids_after, step_at, CodedStep};
 
@@ -10,20 +10,9 @@ use crate::words::RECORD_WORDS;
 use crate::{OWN_WORDS, answer_code, refusal, row, space, words};
 use calls::Response;
 use journal::MAX_IDS;
-use journal::read::Stopped;
-use replay_step::{MAX_READ, Replayed};
+use replay_step::MAX_READ;
 use tables::Tables;
 use tables::answer::{Answer, Errno};
-
-// What the call of a step was answered; "done" where there is none.
-fn answer_of(step: Result<Option<Replayed>, Stopped>) -> Result<Response, Errno>
-    ensures { result ≡ answer_in step }
-{
-    match step {
-        Ok(Some(r)) => r.answer,
-        Ok(None) | Err(_) => Ok(Response::Plain(Answer::Done)),
-    }
-}
 
 // The number of what a call answers: own IDs are the number of groups.
 fn response_code(r: Result<Response, Errno>) -> u64
@@ -74,9 +63,21 @@ pub fn oarhatchet_replay(
     ensures list { list.new ≡ list_after journal.now (read_at journal.now at) list.old }
     ensures ids { ids.new ≡ ids_after (step_at t.old journal.now at buffer.old).reply ids.old }
 {
-    let step = replay_step::step(t, journal, at, list, buffer);
-    let response = answer_of(step);
-    *record = words::words_of(step, at, new_namespace(response));
-    put_own(response, ids);
-    response_code(response)
+    // By cases, and not by one response for all of them: own IDs are many words, and each copy of a response moves them.
+    match replay_step::step(t, journal, at, list, buffer) {
+        Ok(Some(r)) => {
+            *record = words::found_words(r.record, new_namespace(r.answer));
+            put_own(r.answer, ids);
+            response_code(r.answer)
+        }
+        // Where there is no call, the answer is "done".
+        Ok(None) => {
+            *record = words::plain_words(0, at);
+            answer_code(Answer::Done)
+        }
+        Err(s) => {
+            *record = words::plain_words(s.why as u64, s.at);
+            answer_code(Answer::Done)
+        }
+    }
 }

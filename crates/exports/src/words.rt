@@ -1,25 +1,23 @@
 // What stands at an offset of a journal, as the words that C is given, which are numbers and no types of their own.
 ghost use Rattle.std.specs.Prelude.{◌≡◌};
-ghost use Rattle.replay_step.specs.Replay.{read_in};
-ghost use Rattle.exports.specs.Replay.{found_words, plain_words, read_words};
+ghost use Rattle.exports.specs.Replay.{found_words, plain_words};
 
 use journal::layout;
-use journal::read::{Record, Stopped};
-use replay_step::Replayed;
+use journal::read::Record;
 
 // The words of what stands at an offset: what it is, three names, three other numbers, where these end and the call's
 // text or list starts, the bytes of the one, the IDs of the other, an offset, and the new namespace of a clone.
 pub const RECORD_WORDS: usize = 12;
 
 // The words where there is no call: what there is, and its offset.
-fn plain_words(what: u64, offset: usize) -> [u64; RECORD_WORDS]
+pub(crate) fn plain_words(what: u64, offset: usize) -> [u64; RECORD_WORDS]
     ensures { result ≡ plain_words what offset }
 {
     [what, 0, 0, 0, 0, 0, 0, 0, 0, 0, offset as u64, 0]
 }
 
 // The words of a call.
-fn found_words(r: Record, namespace: u64) -> [u64; RECORD_WORDS]
+pub(crate) fn found_words(r: Record, namespace: u64) -> [u64; RECORD_WORDS]
     ensures { result ≡ found_words r namespace }
 {
     let c = r.call;
@@ -39,19 +37,4 @@ fn found_words(r: Record, namespace: u64) -> [u64; RECORD_WORDS]
         r.next as u64,
         namespace,
     ]
-}
-
-// The words of what stands at an offset, with the new namespace of the call.
-pub(crate) fn words_of(
-    step: Result<Option<Replayed>, Stopped>,
-    at: usize,
-    namespace: u64,
-) -> [u64; RECORD_WORDS]
-    ensures { result ≡ read_words (read_in step) at namespace }
-{
-    match step {
-        Ok(Some(r)) => found_words(r.record, namespace),
-        Ok(None) => plain_words(0, at),
-        Err(s) => plain_words(s.why as u64, s.at),
-    }
 }

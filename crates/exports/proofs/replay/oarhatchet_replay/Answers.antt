@@ -1,13 +1,14 @@
 -- `exports::replay::oarhatchet_replay` meets its contract. Assumes nothing.
-use Rattle.std.proofs.Common.{◌∙◌, ap}
-use Rattle.exports.specs.Replay.{response_code, response_ids}
+use Rattle.std.proofs.Common.{◌≡◌, rules, Some}
 use Rattle.exports.proofs.Replaying.{step_coded, step_ids}
 use Rattle.exports.proofs.replay.oarhatchet_replay.Goals as goal
 
-pub returns-clause-made : goal.returns-clause-made
-returns-clause-made c =
-    step_coded _ _ _ _ _ c.step-step.ensures.made _ (c.response_code.ensures ∙ ap response_code c.answer_of-response.ensures)
+pub returns-in-Ok-Some-clause-made : goal.returns-in-Ok-Some-clause-made
+returns-in-Ok-Some-clause-made c =
+    let found : c.in-Ok-Some.field-0 ≡ Some c.in-Ok-Some.r = search rules in
+    step_coded _ _ _ _ _ (rw found at c.in-Ok-Some.ensures.made) _ c.response_code.ensures
 
-pub returns-clause-ids : goal.returns-clause-ids
-returns-clause-ids c =
-    step_ids _ _ _ _ _ c.step-step.ensures.made _ _ (c.put_own.ensures ∙ ap (λ r. response_ids r c.args.ids.now) c.answer_of-response.ensures)
+pub returns-in-Ok-Some-clause-ids : goal.returns-in-Ok-Some-clause-ids
+returns-in-Ok-Some-clause-ids c =
+    let found : c.in-Ok-Some.field-0 ≡ Some c.in-Ok-Some.r = search rules in
+    step_ids _ _ _ _ _ (rw found at c.in-Ok-Some.ensures.made) _ _ c.put_own.ensures
