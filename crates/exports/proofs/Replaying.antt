@@ -1,12 +1,13 @@
 -- An exported step of a journal is the step's. Assumes nothing.
-use Prim.Native.Nat.{ℕ, zero, suc, ◌-◌}
+use Prim.Native.Nat.{ℕ, zero, suc, ◌+◌, ◌-◌}
 use mathlib.Core.Path.{◌≡◌, refl, sym, ap, ◌∙◌}
-use mathlib.Core.List.{List, [], ◌∷◌, ◌++◌}
+use mathlib.Core.List.{List, [], ◌∷◌, ◌++◌, append-nil}
 use native.Mathlib.Omega.{arith}
-use lib.ListN.{length, get_or, take, replicate}
+use lib.ListN.{length, get_or, take, replicate, drop_of_length-le}
 use Rattle.prelude.specs.Parts.{put_at}
 use Rattle.prelude.specs.Lists.{tab}
 use Rattle.prelude.proofs.Made.{tab_same}
+use Rattle.prelude.proofs.Parts.{put_inside}
 use Rattle.records.specs.Records.{max_groups}
 use Rattle.tables.specs.Reply.{Reply, ids, is_refused}
 use Rattle.tables.specs.declared.answer.Errno.{Errno}
@@ -20,6 +21,10 @@ use Rattle.calls.specs.declared.Response.TheVariants.{Plain, Own}
 use Rattle.calls.specs.Calls.{Step, call_reply, ids_held, listed_ids, CallPromise}
 use Rattle.exports.specs.Codes.{code_of, ids_row, own_width}
 use Rattle.exports.specs.Replay.{ids_after, response_code, response_ids, CodedStep}
+
+-- ---- a row that takes the place of a whole array is put at its start
+pub put_whole : (l vs : List ℕ) → length vs ≡ length l → vs ≡ put_at l 0 vs
+put_whole l vs e = sym (put_inside l 0 vs (omega arith) ∙ rw (drop_of_length-le l {i = 0 + length vs} (omega arith)) (append-nil vs))
 
 -- ---- own IDs, in a response that has no others than its reply lists
 -- places past the last are 0

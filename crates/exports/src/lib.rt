@@ -225,7 +225,7 @@ pub fn oarhatchet_getids(t: &Tables, caller: u64, ids: &mut [u32; OWN_WORDS]) ->
 {
     match credentials::own::own_ids(t, caller) {
         Ok(own) => {
-            rows::put(ids, 0, &row(own));
+            *ids = row(own);
             own.supplementary.count
         }
         Err(e) => refusal(e),

@@ -40,7 +40,7 @@ fn put_own(r: Result<Response, Errno>, ids: &mut [u32; OWN_WORDS])
     ensures { ids.new ≡ response_ids r ids.old }
 {
     if let Ok(Response::Own(o)) = r {
-        rows::put(ids, 0, &row(o));
+        *ids = row(o);
     }
 }
 
