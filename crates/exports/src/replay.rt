@@ -63,7 +63,7 @@ pub fn oarhatchet_replay(
     ensures list { list.new ≡ list_after journal.now (read_at journal.now at) list.old }
     ensures ids { ids.new ≡ ids_after (step_at t.old journal.now at buffer.old).reply ids.old }
 {
-    // By cases, and not by one response for all of them: own IDs are many words, and each copy of a response moves them.
+    // By cases, and not by one response for all of them: own IDs are many words, and each copy of one moves them.
     match replay_step::step(t, journal, at, list, buffer) {
         Ok(Some(r)) => {
             *record = words::found_words(r.record, new_namespace(r.answer));
