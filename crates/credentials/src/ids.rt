@@ -99,8 +99,8 @@ fn permitted(t: &Tables, kind: Kind, p: Process, new: Ids, old: Ids) -> bool
     capable(t, p, p.namespace, set_id(kind)) || all_one_of(new, old)
 }
 
-// Sets the caller's real, effective and saved IDs of a kind. Refuses: 3 no caller; 22 an ID that is not mapped; 1
-// where, without SETUID (SETGID) in its own namespace, one is none of the present three.
+// Sets the caller's real, effective and saved IDs of a kind, given as IDs of its namespace. Refuses: 3 no caller; 22 an
+// ID that is not mapped; 1 where, without SETUID (SETGID) in its own namespace, one is none of the present three.
 // Ruled out, for instance: sets kept when the effective ID 0 is given up; a saved ID that is none of the present three.
 #[tactic(auto, unfolding(crate::specs::Calls::set_ids_of))]
 pub fn set_ids(t: &mut Tables, kind: Kind, caller: u64, given: Ids) -> Result<Answer, Errno>
