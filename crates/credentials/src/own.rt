@@ -35,7 +35,8 @@ fn seen(t: &Tables, kind: Kind, namespace: u64, id: u32) -> u32
     from_kernel(t, kind, namespace, id).unwrap_or(OVERFLOW_ID)
 }
 
-// The three IDs of a kind. Always inlined: after a call, the copy of what it wrote ID by ID, two at a time, had to wait.
+// The three IDs of a kind. They are inlined, since what a call writes ID by ID is copied by twos, for which a processor
+// waits.
 #[inline(always)]
 fn seen_ids(t: &Tables, kind: Kind, namespace: u64, ids: Ids) -> Ids
     ensures { result ≡ seen_ids (by_kernel_starts (tables_of t.now)) kind «namespace» ids }
