@@ -62,8 +62,8 @@ pub fn named_namespace(t: &Tables, caller: usize, name: u64) -> Option<usize>
     }
 }
 
-// The lowest place with no process, and the number of what is put there. By `position`, here and below: a `find` took a
-// quarter longer for each place.
+// The lowest place with no process, and the number of what is put there. By `position`, unlike the search below: over
+// this many places a `find` took a quarter longer for each.
 pub fn free_process_place(t: &Tables) -> Option<(usize, u64)>
     ensures { result ≡ free_as process_number (free_process_place (tables_of t.now)) }
 {
@@ -75,6 +75,6 @@ pub fn free_process_place(t: &Tables) -> Option<(usize, u64)>
 pub fn free_namespace_place(t: &Tables) -> Option<(usize, u64)>
     ensures { result ≡ free_as namespace_number (free_namespace_place (tables_of t.now)) }
 {
-    let place = (0..NAMESPACE_PLACES).position(|i| !namespace_at(t, i).live)?;
+    let place = (0..NAMESPACE_PLACES).find(|i| !namespace_at(t, *i).live)?;
     Some((place, namespace_number(place)))
 }
